@@ -1,0 +1,4 @@
+pub mod Tests
+pub mod DigitLaws
+pub mod PacketLaws
+pub mod Vectors

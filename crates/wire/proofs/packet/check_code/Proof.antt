@@ -1,0 +1,36 @@
+-- The bytes from index 1 to the check code are as many as the size says.
+use borrow.Author.Needs.{needs}
+use Prim.Native.Nat.{_-_}
+use mathlib.Core.Path.{_≡_, _∙_}
+use native.Mathlib.Omega.{arith}
+use lib.ListN.{length}
+use Rattle.wire.specs.Packet.{size, checkCode}
+use Rattle.wire.proofs.packet.check_code.Statement.{statement}
+use Rattle.wire.proofs.packet.check_code.Tie as tie
+
+sub-xor-of : tie.Need-sub-xor-of
+sub-xor-of c = search needs
+
+sub-xor-of-2 : tie.Need-sub-xor-of-2
+sub-xor-of-2 c = search needs
+
+part-xor-of-start : tie.Need-part-xor-of-start
+part-xor-of-start c = search needs
+
+part-xor-of-end : tie.Need-part-xor-of-end
+part-xor-of-end c = search needs
+
+xor-of-requires : tie.Need-xor-of-requires
+xor-of-requires c κs = search needs
+
+returns : tie.Need-returns
+unfolding checkCode
+returns c =
+    let p = c .before .before .before .args .p .now in
+    let e : length p - 2 - 1 ≡ size p - 3 = omega arith in
+    c .xor-of .ensures ∙ rw e
+
+pub check-code-spec : {M : Type 1} → statement M
+check-code-spec =
+    tie.close
+    (tie.spec sub-xor-of sub-xor-of-2 part-xor-of-start part-xor-of-end xor-of-requires returns)

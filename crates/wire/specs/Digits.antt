@@ -1,0 +1,92 @@
+-- Numbers on the wire (document 01, 'Packet'): hexadecimal digits 0-9 and A-F, capitals only, high digit first.
+use mathlib.Core.Bool.{cond}
+use mathlib.Core.List.{List, [], _∷_}
+use mathlib.Core.Option.{Option, none, some, Option·map}
+use Prim.Native.Nat.{ℕ, _+_, _-_, _*_, _/_, _%_, _<_}
+use lib.Dec.{ltb, leb}
+use lib.ListN.{length, getD, take}
+use Rattle.wire.specs.declared.digits.Octet.{Octet}
+use Rattle.wire.specs.declared.digits.Word.{Word}
+use Rattle.wire.specs.declared.digits.Octets.{Octets}
+
+-- each element of a list is a byte
+abbrev pub Bytes : List ℕ → Type 0
+Bytes s = (i : ℕ) → getD s i 0 < 256
+
+-- ---- as written
+
+-- the digit of a number below 16
+abbrev pub digitOf : ℕ → ℕ
+digitOf n = cond (ltb n 10) (0x30 + n) (0x37 + n)
+
+-- a number below 256 as two digits
+abbrev pub two : ℕ → List ℕ
+two n = digitOf (n / 16) ∷ digitOf (n % 16) ∷ []
+
+-- a number below 65536 as four digits
+abbrev pub four : ℕ → List ℕ
+four n = digitOf (n / 256 / 16) ∷ digitOf (n / 256 % 16) ∷ digitOf (n % 256 / 16) ∷ digitOf (n % 256 % 16) ∷ []
+
+-- bytes as two digits each
+unfoldable pub hexOf : List ℕ → List ℕ
+hexOf [] = []
+hexOf (b ∷ bs) = digitOf (b / 16) ∷ digitOf (b % 16) ∷ hexOf bs
+
+-- ---- as received
+
+-- the value of a digit; none where the byte is no digit
+unfoldable pub valueOf : ℕ → Option ℕ
+valueOf b =
+    cond (ltb b 0x30) none
+    (cond (leb b 0x39) (some (b - 0x30))
+    (cond (ltb b 0x41) none
+    (cond (leb b 0x46) (some (b - 0x37)) none)))
+
+-- a high and a low part as one number, the low part below base; none where either is none
+abbrev pub joinLow : ℕ → ℕ → Option ℕ → Option ℕ
+joinLow base high none = none
+joinLow base high (some low) = some (high * base + low)
+
+abbrev pub join : ℕ → Option ℕ → Option ℕ → Option ℕ
+join base none low = none
+join base (some high) low = joinLow base high low
+
+-- the two digits at a place
+unfoldable pub twoAt : List ℕ → ℕ → Option ℕ
+twoAt s at = join 16 (valueOf (getD s at 0)) (valueOf (getD s (at + 1) 0))
+
+-- the four digits at a place
+unfoldable pub fourAt : List ℕ → ℕ → Option ℕ
+fourAt s at = join 256 (twoAt s at) (twoAt s (at + 2))
+
+-- one byte more in front; none where there is no byte, or nothing behind it
+abbrev pub consLow : ℕ → Option (List ℕ) → Option (List ℕ)
+consLow b bs = Option·map (λ (s : List ℕ). b ∷ s) bs
+
+abbrev pub cons : Option ℕ → Option (List ℕ) → Option (List ℕ)
+cons none bs = none
+cons (some b) bs = consLow b bs
+
+-- the bytes that two digits each give; none where a digit is bad, or left over
+unfoldable pub unhex : List ℕ → Option (List ℕ)
+unhex [] = some []
+unhex (h ∷ []) = none
+unhex (h ∷ l ∷ t) = cons (join 16 (valueOf h) (valueOf l)) (unhex t)
+
+-- the same for at most 16 bytes, as serial numbers, models and tags have
+unfoldable pub bytesOf : List ℕ → Option (List ℕ)
+bytesOf t = cond (ltb 32 (length t)) none (unhex t)
+
+-- ---- what the code's answers mean
+
+abbrev pub octet : Octet → Option ℕ
+octet (Octet.Value n) = some n
+octet Octet.Bad = none
+
+abbrev pub word : Word → Option ℕ
+word (Word.Value n) = some n
+word Word.Bad = none
+
+-- what lies in the array past the count is nobody's
+abbrev pub octets : Octets → Option (List ℕ)
+octets o = cond (o .good) (some (take (o .count) (o .bytes))) none

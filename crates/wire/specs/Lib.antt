@@ -1,0 +1,4 @@
+pub mod Refusal
+pub mod Digits
+pub mod Packet
+pub mod Judge

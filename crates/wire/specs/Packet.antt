@@ -1,0 +1,87 @@
+-- Packets (document 01, 'Packet'): a header of seven bytes, the message from STX to ETX, a check code and CR.
+-- Every position behind the header is said from `size`, the number of bytes of the whole packet.
+use mathlib.Core.List.{List, [], _∷_, _++_}
+use mathlib.Core.Option.{Option, none, some}
+use Prim.Native.Nat.{ℕ, _+_, _-_, _≤_}
+use lib.Bits.{bitXor}
+use lib.ListN.{length, take, drop, getD}
+use Rattle.wire.specs.Digits.{two, twoAt}
+
+abbrev pub soh : ℕ
+soh = 0x01
+
+abbrev pub stx : ℕ
+stx = 0x02
+
+abbrev pub etx : ℕ
+etx = 0x03
+
+abbrev pub cr : ℕ
+cr = 0x0D
+
+-- '0': the reserved byte, and the station's address
+abbrev pub zeroByte : ℕ
+zeroByte = 0x30
+
+-- ALL, the destination that every monitor takes
+abbrev pub allAddress : ℕ
+allAddress = 0x2A
+
+-- the address of a monitor ID: 41h for 1, 48h for 8
+abbrev pub addressOf : ℕ → ℕ
+addressOf id = 0x40 + id
+
+-- ---- a packet as written
+
+-- the exclusive or of a and all bytes
+unfoldable pub xorFrom : ℕ → List ℕ → ℕ
+xorFrom a [] = a
+xorFrom a (b ∷ bs) = xorFrom (bitXor a b) bs
+
+abbrev pub xorOf : List ℕ → ℕ
+xorOf bs = xorFrom 0 bs
+
+-- all bytes after SOH through ETX; the length digits count the text, STX and ETX
+abbrev pub covered : ℕ → ℕ → ℕ → List ℕ → List ℕ
+covered dest source kind text =
+    zeroByte ∷ dest ∷ source ∷ kind ∷ (two (length text + 2) ++ (stx ∷ (text ++ (etx ∷ []))))
+
+-- a whole packet with the text between STX and ETX
+unfoldable pub packet : ℕ → ℕ → ℕ → List ℕ → List ℕ
+packet dest source kind text =
+    soh ∷ (covered dest source kind text ++ (xorOf (covered dest source kind text) ∷ cr ∷ []))
+
+-- a request comes from the station, a reply goes to it
+abbrev pub requestPacket : ℕ → ℕ → List ℕ → List ℕ
+requestPacket dest kind text = packet dest zeroByte kind text
+
+abbrev pub replyPacket : ℕ → ℕ → List ℕ → List ℕ
+replyPacket source kind text = packet zeroByte source kind text
+
+-- p at the start of a buffer, the rest of it untouched
+unfoldable pub over : List ℕ → List ℕ → List ℕ
+over p buffer = p ++ drop (length p) buffer
+
+-- a text that a packet can hold, and a buffer that holds the packet: L, which counts STX and ETX too, is 4 to 64
+pub record Fits (text buffer : List ℕ) : Type 0 where
+  pub least : 2 ≤ length text
+  pub most : length text ≤ 62
+  pub room : length text + 11 ≤ length buffer
+
+-- ---- a packet as received
+
+abbrev pub sizeFrom : Option ℕ → ℕ
+sizeFrom (some l) = l + 9
+sizeFrom none = 0
+
+-- how many bytes the packet has whose first seven or more are held: L + 9. Bad length digits have no meaning; refusal 4 comes first.
+unfoldable pub size : List ℕ → ℕ
+size held = sizeFrom (twoAt held 5)
+
+-- the check code that a packet should have
+unfoldable pub checkCode : List ℕ → ℕ
+checkCode p = xorOf (take (size p - 3) (drop 1 p))
+
+-- the text of a packet, between STX and ETX
+unfoldable pub textOf : List ℕ → List ℕ
+textOf p = take (size p - 11) (drop 8 p)

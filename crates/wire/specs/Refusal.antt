@@ -1,0 +1,26 @@
+-- Refusals (document 01, the table under 'How bytes become a packet'): the number of each case.
+use Prim.Native.Nat.{ℕ}
+use Rattle.wire.specs.declared.refusal.Refusal.{Refusal}
+
+abbrev pub numberOf : Refusal → ℕ
+numberOf Refusal.NoStart = 1
+numberOf Refusal.Header = 2
+numberOf Refusal.MessageType = 3
+numberOf Refusal.Length = 4
+numberOf Refusal.NoReturn = 5
+numberOf Refusal.CheckCode = 6
+numberOf Refusal.Message = 7
+numberOf Refusal.Destination = 8
+numberOf Refusal.ErasePending = 9
+numberOf Refusal.ShortBuffer = 10
+numberOf Refusal.NotAStore = 11
+numberOf Refusal.Unsound = 12
+numberOf Refusal.NoErasePending = 13
+numberOf Refusal.MonitorId = 20
+numberOf Refusal.Value = 21
+numberOf Refusal.ReplyShort = 30
+numberOf Refusal.ReplyHeader = 31
+numberOf Refusal.ReplyLength = 32
+numberOf Refusal.ReplyNoReturn = 33
+numberOf Refusal.ReplyCheckCode = 34
+numberOf Refusal.ReplyMessage = 35
