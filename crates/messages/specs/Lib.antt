@@ -1,0 +1,4 @@
+pub mod Message
+pub mod Text
+pub mod Read
+pub mod View

@@ -1,0 +1,168 @@
+-- What a text says (document 01, 'What a good packet does' and 'Station'): the request that a board finds in it, and the reply that
+-- the station finds in it. Type and text select together; the length is exact; fields are taken apart in their order, and the first
+-- that fails ends it. None: anything else, which a board answers with NULL and the station refuses with 35.
+use mathlib.Core.Bool.{Bool, true, false, cond, _&&_}
+use mathlib.Core.List.{List, [], _∷_}
+use mathlib.Core.Option.{Option, none, some, bind, Option·map}
+use Prim.Native.Nat.{ℕ}
+use lib.Dec.{leb, eqb}
+use lib.ListN.{length, drop}
+use Rattle.wire.specs.Digits.{twoAt, fourAt, bytesOf}
+use Rattle.messages.specs.Message.{Request, Reply, isPowerMode}
+use Rattle.messages.specs.Message.Request.{getParameter, setParameter, powerRead, powerControl, dateRead, dateWrite, itemRead, tagWrite}
+use Rattle.messages.specs.Message.Reply.{null, getReply, setReply, powerReadReply, powerControlReply, dateReadReply, dateWriteReply, itemReply, tagWriteReply}
+use Rattle.messages.specs.Text.{typeA, typeB, typeC, typeD, typeE, typeF}
+use Rattle.messages.specs.Text.{powerReadName, powerControlName, powerReadReplyName, powerReadReplyFixed, dateReadName, dateReadReplyName}
+use Rattle.messages.specs.Text.{dateWriteName, dateWriteReplyName, itemReadName, itemReplyName, tagWriteName, tagWriteReplyName, nullName}
+use Rattle.messages.specs.declared.message.Date.{Date}
+use Rattle.messages.specs.declared.message.Item.{Item}
+
+-- ---- parts of a text
+
+-- the text begins with a name
+unfoldable pub beginsWith : List ℕ → List ℕ → Bool
+beginsWith [] t = true
+beginsWith (a ∷ name) [] = false
+beginsWith (a ∷ name) (b ∷ t) = eqb a b && beginsWith name t
+
+-- the text is a name
+unfoldable pub isName : List ℕ → List ℕ → Bool
+isName name t = eqb (length t) (length name) && beginsWith name t
+
+-- a result, a status or an operation type: 00 or 01
+unfoldable pub flagAt : List ℕ → ℕ → Option ℕ
+flagAt t at = bind (twoAt t at) λ n. cond (leb n 1) (some n) none
+
+-- the mode of a power status
+unfoldable pub modeAt : List ℕ → ℕ → Option ℕ
+modeAt t at = bind (fourAt t at) λ n. cond (isPowerMode n) (some n) none
+
+-- seven fields of two digits
+unfoldable pub dateIn : List ℕ → Option Date
+dateIn t =
+    cond (eqb (length t) 14)
+    (bind (twoAt t 0) λ yy.
+    bind (twoAt t 2) λ mm.
+    bind (twoAt t 4) λ dd.
+    bind (twoAt t 6) λ ww.
+    bind (twoAt t 8) λ hh.
+    bind (twoAt t 10) λ mn.
+    bind (twoAt t 12) λ ds.
+    some (record { year = yy; month = mm; day = dd; weekday = ww; hour = hh; minute = mn; daylight = ds }))
+    none
+
+-- ---- requests
+
+-- type C: page, code
+unfoldable pub getIn : List ℕ → Option Request
+getIn t =
+    cond (eqb (length t) 4)
+    (bind (twoAt t 0) λ page.
+    bind (twoAt t 2) λ code.
+    some (getParameter page code))
+    none
+
+-- type E: page, code, value
+unfoldable pub setIn : List ℕ → Option Request
+setIn t =
+    cond (eqb (length t) 8)
+    (bind (twoAt t 0) λ page.
+    bind (twoAt t 2) λ code.
+    bind (fourAt t 4) λ value.
+    some (setParameter page code value))
+    none
+
+-- behind C203D6: mode
+unfoldable pub powerControlIn : List ℕ → Option Request
+powerControlIn t = cond (eqb (length t) 4) (bind (fourAt t 0) λ mode. some (powerControl mode)) none
+
+-- type A, but for the tag write
+unfoldable pub commandIn : List ℕ → Option Request
+commandIn t =
+    cond (isName powerReadName t) (some powerRead)
+    (cond (isName dateReadName t) (some dateRead)
+    (cond (isName (itemReadName Item.Serial) t) (some (itemRead Item.Serial))
+    (cond (isName (itemReadName Item.Model) t) (some (itemRead Item.Model))
+    (cond (isName (itemReadName Item.Tag) t) (some (itemRead Item.Tag))
+    (cond (isName (itemReadName Item.FormerTag) t) (some (itemRead Item.FormerTag))
+    (cond (beginsWith powerControlName t) (powerControlIn (drop 6 t))
+    (cond (beginsWith dateWriteName t) (Option·map dateWrite (dateIn (drop 4 t))) none)))))))
+
+-- the request in a text of a type
+unfoldable pub requestIn : ℕ → List ℕ → Option Request
+requestIn kind t =
+    cond (eqb kind typeC) (getIn t)
+    (cond (eqb kind typeE) (setIn t)
+    (cond (eqb kind typeA)
+    (cond (beginsWith tagWriteName t) (Option·map tagWrite (bytesOf (drop 4 t))) (commandIn t))
+    none))
+
+-- ---- replies
+
+-- types D and F: result, page, code, operation type, max, value
+unfoldable pub parameterIn : (ℕ → ℕ → ℕ → ℕ → ℕ → ℕ → Reply) → List ℕ → Option Reply
+parameterIn reply t =
+    cond (eqb (length t) 16)
+    (bind (flagAt t 0) λ result.
+    bind (twoAt t 2) λ page.
+    bind (twoAt t 4) λ code.
+    bind (flagAt t 6) λ operation.
+    bind (fourAt t 8) λ largest.
+    bind (fourAt t 12) λ value.
+    some (reply result page code operation largest value))
+    none
+
+-- behind 02: status, D6 00 0004, mode
+unfoldable pub powerReadReplyIn : List ℕ → Option Reply
+powerReadReplyIn t =
+    cond (eqb (length t) 14)
+    (bind (flagAt t 0) λ status.
+    cond (beginsWith powerReadReplyFixed (drop 2 t))
+    (bind (modeAt t 10) λ mode.
+    some (powerReadReply status mode))
+    none)
+    none
+
+-- status, C203D6, mode
+unfoldable pub powerControlReplyIn : List ℕ → Option Reply
+powerControlReplyIn t =
+    cond (eqb (length t) 12)
+    (bind (flagAt t 0) λ status.
+    cond (beginsWith powerControlName (drop 2 t))
+    (bind (fourAt t 8) λ mode.
+    some (powerControlReply status mode))
+    none)
+    none
+
+-- behind C312: status, the date
+unfoldable pub dateWriteReplyIn : List ℕ → Option Reply
+dateWriteReplyIn t = cond (eqb (length t) 16) (bind (flagAt t 0) λ status. Option·map (dateWriteReply status) (dateIn (drop 2 t))) none
+
+-- behind F111: status, the tag
+unfoldable pub tagWriteReplyIn : List ℕ → Option Reply
+tagWriteReplyIn t = cond (leb 2 (length t)) (bind (flagAt t 0) λ status. Option·map (tagWriteReply status) (bytesOf (drop 2 t))) none
+
+-- type B, replies without bytes of a serial number, a model or a tag
+unfoldable pub plainReplyIn : List ℕ → Option Reply
+plainReplyIn t =
+    cond (isName nullName t) (some null)
+    (cond (beginsWith dateReadReplyName t) (Option·map dateReadReply (dateIn (drop 4 t)))
+    (cond (beginsWith dateWriteReplyName t) (dateWriteReplyIn (drop 4 t))
+    (cond (beginsWith powerReadReplyName t) (powerReadReplyIn (drop 2 t))
+    (powerControlReplyIn t))))
+
+-- type B
+unfoldable pub commandReplyIn : List ℕ → Option Reply
+commandReplyIn t =
+    cond (beginsWith (itemReplyName Item.Serial) t) (Option·map (itemReply Item.Serial) (bytesOf (drop 4 t)))
+    (cond (beginsWith (itemReplyName Item.Model) t) (Option·map (itemReply Item.Model) (bytesOf (drop 4 t)))
+    (cond (beginsWith (itemReplyName Item.Tag) t) (Option·map (itemReply Item.Tag) (bytesOf (drop 4 t)))
+    (cond (beginsWith (itemReplyName Item.FormerTag) t) (Option·map (itemReply Item.FormerTag) (bytesOf (drop 4 t)))
+    (cond (beginsWith tagWriteReplyName t) (tagWriteReplyIn (drop 4 t)) (plainReplyIn t)))))
+
+-- the reply in a text of a type
+unfoldable pub replyIn : ℕ → List ℕ → Option Reply
+replyIn kind t =
+    cond (eqb kind typeD) (parameterIn getReply t)
+    (cond (eqb kind typeF) (parameterIn setReply t)
+    (cond (eqb kind typeB) (commandReplyIn t) none))

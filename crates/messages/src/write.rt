@@ -1,0 +1,302 @@
+// The texts of requests and replies.
+ghost use mathlib.Core.List.{_++_};
+ghost use mathlib.Core.Path.{_≡_};
+ghost use Prim.Native.Nat.{_+_, _≤_};
+ghost use lib.ListN.{length, take};
+ghost use lib.Seq.{paste};
+ghost use Rattle.wire.specs.Digits.{two, four, hexOf};
+ghost use Rattle.messages.specs.Text.{typeA, typeB, typeC, typeE, powerControlName, powerReadReplyName, powerReadReplyFixed, dateWriteReplyName, tagWriteReplyName, itemReadName, itemReplyName, dateText, parameterText, requestType, requestText, replyType, replyText};
+ghost use Rattle.messages.specs.View.{requestOf, replyOf, requestCount, replyCount, Beside, Writes, outcomeNumber, modeNumber, dateAnswerOf};
+use crate::message::Date;
+use crate::message::DateAnswer;
+use crate::message::Item;
+use crate::message::Outcome;
+use crate::message::Parameter;
+use crate::message::PowerMode;
+use crate::message::Reply;
+use crate::message::Request;
+use wire::digits;
+
+// The type of a message and the length of its text.
+pub struct Written {
+    pub kind: u8,
+    pub length: usize,
+}
+
+// Writes the text of a request, with a tag's bytes beside it.
+pub fn request_text(request: Request, bytes: &[u8], text: &mut [u8; 62]) -> Written
+    requires { ⌜ Beside (requestCount request) (now bytes) ⌝ }
+    ensures { λ r. ⌜ Writes (requestType (requestOf request (now (bytes .entry)))) (requestText (requestOf request (now (bytes .entry)))) r (now (text .entry)) (now (text .exit)) ⌝ }
+{
+    match request {
+        Request::Get { page, code } => {
+            return put_get(page, code, text);
+        }
+        Request::Set { page, code, value } => {
+            return put_set(page, code, value, text);
+        }
+        Request::PowerRead => {
+            return put_name(0x41, b"01D6", text);
+        }
+        Request::PowerControl(mode) => {
+            return put_power_control(mode, text);
+        }
+        Request::DateRead => {
+            return put_name(0x41, b"C211", text);
+        }
+        Request::DateWrite(date) => {
+            return put_named_date(0x41, b"C212", date, text);
+        }
+        Request::ItemRead(item) => {
+            let name = item_read_name(item);
+            return put_name(0x41, &name, text);
+        }
+        Request::TagWrite(count) => {
+            let n = count as usize;
+            return put_named_bytes(0x41, b"F011", &bytes[..n], text);
+        }
+    }
+}
+
+// Writes the text of a reply, with the bytes of a serial number, a model or a tag beside it.
+pub fn reply_text(reply: Reply, bytes: &[u8], text: &mut [u8; 62]) -> Written
+    requires { ⌜ Beside (replyCount reply) (now bytes) ⌝ }
+    ensures { λ r. ⌜ Writes (replyType (replyOf reply (now (bytes .entry)))) (replyText (replyOf reply (now (bytes .entry)))) r (now (text .entry)) (now (text .exit)) ⌝ }
+{
+    match reply {
+        Reply::Null => {
+            return put_name(0x42, b"BE", text);
+        }
+        Reply::Got(outcome, parameter) => {
+            return put_parameter(0x44, outcome, parameter, text);
+        }
+        Reply::Set(outcome, parameter) => {
+            return put_parameter(0x46, outcome, parameter, text);
+        }
+        Reply::PowerStatus(outcome, mode) => {
+            return put_power_read_reply(outcome, mode, text);
+        }
+        Reply::PowerControl(outcome, mode) => {
+            return put_power_control_reply(outcome, mode, text);
+        }
+        Reply::Date(answer) => {
+            return put_date_reply(answer, text);
+        }
+        Reply::Item(item, count) => {
+            let n = count as usize;
+            let name = item_reply_name(item);
+            return put_named_bytes(0x42, &name, &bytes[..n], text);
+        }
+        Reply::TagWritten(outcome, count) => {
+            let n = count as usize;
+            return put_tag_write_reply(outcome, &bytes[..n], text);
+        }
+    }
+}
+
+// A name alone.
+fn put_name(kind: u8, name: &[u8], text: &mut [u8; 62]) -> Written
+    requires { ⌜ length (now name) ≤ 62 ⌝ }
+    ensures { λ r. ⌜ Writes kind (now (name .entry)) r (now (text .entry)) (now (text .exit)) ⌝ }
+{
+    digits::put_bytes(text, 0, name);
+    Written {
+        kind,
+        length: name.len(),
+    }
+}
+
+// A name and bytes behind it, two digits each.
+fn put_named_bytes(kind: u8, name: &[u8; 4], bytes: &[u8], text: &mut [u8; 62]) -> Written
+    requires { ⌜ length (now bytes) ≤ 16 ⌝ }
+    ensures { λ r. ⌜ Writes kind (now (name .entry) ++ hexOf (now (bytes .entry))) r (now (text .entry)) (now (text .exit)) ⌝ }
+{
+    digits::put_bytes(text, 0, name);
+    digits::put_hex(text, 4, bytes);
+    Written {
+        kind,
+        length: 4 + 2 * bytes.len(),
+    }
+}
+
+// A name and a date behind it.
+fn put_named_date(kind: u8, name: &[u8; 4], date: Date, text: &mut [u8; 62]) -> Written
+    ensures { λ r. ⌜ Writes kind (now (name .entry) ++ dateText date) r (now (text .entry)) (now (text .exit)) ⌝ }
+{
+    digits::put_bytes(text, 0, name);
+    put_date(date, 4, text);
+    Written { kind, length: 18 }
+}
+
+// Page and code.
+fn put_get(page: u8, code: u8, text: &mut [u8; 62]) -> Written
+    ensures { λ r. ⌜ Writes typeC (two page ++ two code) r (now (text .entry)) (now (text .exit)) ⌝ }
+{
+    digits::put_two(text, 0, page);
+    digits::put_two(text, 2, code);
+    Written {
+        kind: 0x43,
+        length: 4,
+    }
+}
+
+// Page, code and value.
+fn put_set(page: u8, code: u8, value: u16, text: &mut [u8; 62]) -> Written
+    ensures { λ r. ⌜ Writes typeE (two page ++ (two code ++ four value)) r (now (text .entry)) (now (text .exit)) ⌝ }
+{
+    digits::put_two(text, 0, page);
+    digits::put_two(text, 2, code);
+    digits::put_four(text, 4, value);
+    Written {
+        kind: 0x45,
+        length: 8,
+    }
+}
+
+// Result, page, code, operation type, max and value.
+fn put_parameter(kind: u8, outcome: Outcome, parameter: Parameter, text: &mut [u8; 62]) -> Written
+    ensures { λ r. ⌜ Writes kind (parameterText (outcomeNumber outcome) (parameter .page) (parameter .code) (parameter .operation) (parameter .largest) (parameter .value)) r (now (text .entry)) (now (text .exit)) ⌝ }
+{
+    digits::put_two(text, 0, outcome_number(outcome));
+    digits::put_two(text, 2, parameter.page);
+    digits::put_two(text, 4, parameter.code);
+    digits::put_two(text, 6, parameter.operation);
+    digits::put_four(text, 8, parameter.largest);
+    digits::put_four(text, 12, parameter.value);
+    Written { kind, length: 16 }
+}
+
+// C203D6 and the mode.
+fn put_power_control(mode: u16, text: &mut [u8; 62]) -> Written
+    ensures { λ r. ⌜ Writes typeA (powerControlName ++ four mode) r (now (text .entry)) (now (text .exit)) ⌝ }
+{
+    digits::put_bytes(text, 0, b"C203D6");
+    digits::put_four(text, 6, mode);
+    Written {
+        kind: 0x41,
+        length: 10,
+    }
+}
+
+// 02, status, D6, 00, 0004 and the mode.
+fn put_power_read_reply(outcome: Outcome, mode: PowerMode, text: &mut [u8; 62]) -> Written
+    ensures { λ r. ⌜ Writes typeB (powerReadReplyName ++ (two (outcomeNumber outcome) ++ (powerReadReplyFixed ++ four (modeNumber mode)))) r (now (text .entry)) (now (text .exit)) ⌝ }
+{
+    digits::put_bytes(text, 0, b"02");
+    digits::put_two(text, 2, outcome_number(outcome));
+    digits::put_bytes(text, 4, b"D6000004");
+    digits::put_four(text, 12, mode_number(mode));
+    Written {
+        kind: 0x42,
+        length: 16,
+    }
+}
+
+// Status, C203D6 and the mode.
+fn put_power_control_reply(outcome: Outcome, mode: u16, text: &mut [u8; 62]) -> Written
+    ensures { λ r. ⌜ Writes typeB (two (outcomeNumber outcome) ++ (powerControlName ++ four mode)) r (now (text .entry)) (now (text .exit)) ⌝ }
+{
+    digits::put_two(text, 0, outcome_number(outcome));
+    digits::put_bytes(text, 2, b"C203D6");
+    digits::put_four(text, 8, mode);
+    Written {
+        kind: 0x42,
+        length: 12,
+    }
+}
+
+// C311 and the date, or C312, status and the date.
+fn put_date_reply(answer: DateAnswer, text: &mut [u8; 62]) -> Written
+    ensures { λ r. ⌜ Writes typeB (replyText (dateAnswerOf answer)) r (now (text .entry)) (now (text .exit)) ⌝ }
+{
+    match answer {
+        DateAnswer::Read(date) => {
+            return put_named_date(0x42, b"C311", date, text);
+        }
+        DateAnswer::Written(outcome, date) => {
+            return put_date_write_reply(outcome, date, text);
+        }
+    }
+}
+
+// C312, status and the date.
+fn put_date_write_reply(outcome: Outcome, date: Date, text: &mut [u8; 62]) -> Written
+    ensures { λ r. ⌜ Writes typeB (dateWriteReplyName ++ (two (outcomeNumber outcome) ++ dateText date)) r (now (text .entry)) (now (text .exit)) ⌝ }
+{
+    digits::put_bytes(text, 0, b"C312");
+    digits::put_two(text, 4, outcome_number(outcome));
+    put_date(date, 6, text);
+    Written {
+        kind: 0x42,
+        length: 20,
+    }
+}
+
+// F111, status and the tag.
+fn put_tag_write_reply(outcome: Outcome, tag: &[u8], text: &mut [u8; 62]) -> Written
+    requires { ⌜ length (now tag) ≤ 16 ⌝ }
+    ensures { λ r. ⌜ Writes typeB (tagWriteReplyName ++ (two (outcomeNumber outcome) ++ hexOf (now (tag .entry)))) r (now (text .entry)) (now (text .exit)) ⌝ }
+{
+    digits::put_bytes(text, 0, b"F111");
+    digits::put_two(text, 4, outcome_number(outcome));
+    digits::put_hex(text, 6, tag);
+    Written {
+        kind: 0x42,
+        length: 6 + 2 * tag.len(),
+    }
+}
+
+// The seven fields of a date from a place on.
+fn put_date(date: Date, at: usize, text: &mut [u8; 62])
+    requires { ⌜ at + 14 ≤ 62 ⌝ }
+    ensures { λ _. ⌜ now (text .exit) ≡ paste (now (text .entry)) at (dateText date) 14 ⌝ }
+{
+    digits::put_two(text, at, date.year);
+    digits::put_two(text, at + 2, date.month);
+    digits::put_two(text, at + 4, date.day);
+    digits::put_two(text, at + 6, date.weekday);
+    digits::put_two(text, at + 8, date.hour);
+    digits::put_two(text, at + 10, date.minute);
+    digits::put_two(text, at + 12, date.daylight);
+}
+
+fn item_read_name(item: Item) -> [u8; 4]
+    ensures { λ r. ⌜ r ≡ itemReadName item ⌝ }
+{
+    match item {
+        Item::Serial => *b"C216",
+        Item::Model => *b"C217",
+        Item::Tag => *b"F010",
+        Item::FormerTag => *b"F012",
+    }
+}
+
+fn item_reply_name(item: Item) -> [u8; 4]
+    ensures { λ r. ⌜ r ≡ itemReplyName item ⌝ }
+{
+    match item {
+        Item::Serial => *b"C316",
+        Item::Model => *b"C317",
+        Item::Tag => *b"F110",
+        Item::FormerTag => *b"F112",
+    }
+}
+
+fn outcome_number(outcome: Outcome) -> u8
+    ensures { λ r. ⌜ r ≡ outcomeNumber outcome ⌝ }
+{
+    match outcome {
+        Outcome::Acknowledged => 0,
+        Outcome::Refused => 1,
+    }
+}
+
+fn mode_number(mode: PowerMode) -> u16
+    ensures { λ r. ⌜ r ≡ modeNumber mode ⌝ }
+{
+    match mode {
+        PowerMode::On => 1,
+        PowerMode::Sleep => 2,
+        PowerMode::Standby => 4,
+    }
+}
