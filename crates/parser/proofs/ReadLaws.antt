@@ -1,0 +1,58 @@
+-- What a name at the front of a text and a field that was read say of the text and of numbers.
+use Prim.Native.Nat.{ℕ, _+_, _-_, _<_, _≤_}
+use mathlib.Core.Bool.{Bool, true, false, cond, _&&_, and-false}
+use mathlib.Core.List.{List, [], _∷_}
+use mathlib.Core.Option.{Option, none, some, bind, Option·none-ne-some}
+use mathlib.Core.Path.{_≡_, refl}
+use native.Mathlib.Numerals.{add-one}
+use native.Mathlib.Omega.{arith}
+use borrow.Author.Tests.{leb-true}
+use lib.Dec.{leb, eqb}
+use lib.ListN.{length, getD, take, drop, length-drop}
+use lib.Seq.{take-all, drop-cons}
+use Rattle.wire.specs.Digits.{twoAt}
+use Rattle.wire.proofs.DigitLaws.{cond-by}
+use Rattle.messages.specs.Read.{beginsWith, flagAt}
+
+-- the part `&t[a..]` is `drop a t`
+pub part-rest : (a : ℕ) (t : List ℕ) → take (length t - a) (drop a t) ≡ drop a t
+part-rest a t = take-all (length t - a) (drop a t) (simp length-drop (omega arith))
+
+-- ---- names
+
+second-of-and : (a b : Bool) → (a && b) ≡ true → b ≡ true
+second-of-and true b e = e
+second-of-and false b e = cc
+
+pub begins-length : (name t : List ℕ) → beginsWith name t ≡ true → length name ≤ length t
+unfolding beginsWith
+begins-length [] t e = omega arith
+begins-length (a ∷ name) [] e = let z : _≡_ {A = ℕ} 0 1 = cc in omega arith
+begins-length (a ∷ name) (b ∷ t) e =
+    let h = begins-length name t (second-of-and (eqb a b) (beginsWith name t) e) in
+    omega arith
+
+pub begins-short : (name t : List ℕ) → length t < length name → beginsWith name t ≡ false
+unfolding beginsWith
+begins-short [] t h = let z : _≡_ {A = ℕ} 0 1 = omega arith in cc
+begins-short (a ∷ name) [] h = refl
+begins-short (a ∷ name) (b ∷ t) h = rw (begins-short name t (omega arith)) (and-false (eqb a b))
+
+pub begins-step : (name t : List ℕ) (i : ℕ) → i < length name → i < length t
+    → beginsWith (drop i name) (drop i t) ≡ (eqb (getD name i 0) (getD t i 0) && beginsWith (drop (i + 1) name) (drop (i + 1) t))
+unfolding beginsWith
+begins-step name t i h k = rw (drop-cons name i 0 h, drop-cons t i 0 k, add-one)
+
+-- ---- fields
+
+flag-within : (o : Option ℕ) {n : ℕ} → bind o (λ (n : ℕ). cond (leb n 1) (some n) none) ≡ some n → n ≤ 1
+unfolding bind
+flag-within none {n} = λ e. absurd (Option·none-ne-some n e)
+flag-within (some m) {n} =
+    cond-by (λ (o : Option ℕ). o ≡ some n → n ≤ 1) (leb m 1) (some m) none
+    (λ t e. let k : m ≡ n = cc in omega (arith, leb-true m 1 t))
+    (λ _ e. absurd (Option·none-ne-some n e))
+
+pub flag-below : (t : List ℕ) (at : ℕ) {n : ℕ} → flagAt t at ≡ some n → n ≤ 1
+unfolding flagAt
+flag-below t at = flag-within (twoAt t at)

@@ -1,0 +1,154 @@
+// What a board finds in the text of a packet.
+ghost use mathlib.Core.List.{List};
+ghost use mathlib.Core.Option.{Option·map};
+ghost use mathlib.Core.Path.{_≡_};
+ghost use Prim.Native.Nat.{ℕ};
+ghost use Rattle.messages.specs.Message.Request.{dateWrite};
+ghost use Rattle.messages.specs.Read.{requestIn, commandIn, getIn, setIn, powerControlIn, dateIn};
+ghost use Rattle.parser.specs.View.{parsed, parsedWith};
+use crate::field;
+use crate::field::DateField;
+use messages::message::Item;
+use messages::message::Request;
+use wire::digits;
+use wire::digits::Octet;
+use wire::digits::Word;
+
+// A request, or anything else.
+pub enum Parsed {
+    Request(Request),
+    Other,
+}
+
+// What was parsed, with the bytes of a tag.
+pub struct ParsedRequest {
+    pub parsed: Parsed,
+    pub bytes: [u8; 16],
+}
+
+// The request in the text of a packet of a type.
+pub fn parse_request(kind: u8, text: &[u8]) -> ParsedRequest
+    ensures { λ r. ⌜ parsed r ≡ requestIn kind (now (text .entry)) ⌝ }
+{
+    if kind == 0x43 {
+        return without_bytes(parse_get(text));
+    }
+    if kind == 0x45 {
+        return without_bytes(parse_set(text));
+    }
+    if kind != 0x41 {
+        return without_bytes(Parsed::Other);
+    }
+    if !field::begins_with(b"F011", text) {
+        return without_bytes(parse_command(text));
+    }
+    let tag = digits::bytes_of(&text[4..]);
+    let good = tag.good;
+    if !good {
+        return without_bytes(Parsed::Other);
+    }
+    let bytes = tag.bytes;
+    ParsedRequest {
+        parsed: Parsed::Request(Request::TagWrite(tag.count)),
+        bytes,
+    }
+}
+
+// A request that has no bytes beside it.
+fn without_bytes(parsed: Parsed) -> ParsedRequest
+    ensures { λ r. ⌜ r .parsed ≡ parsed ⌝ }
+{
+    ParsedRequest {
+        parsed,
+        bytes: [0u8; 16],
+    }
+}
+
+// Type C: page and code.
+fn parse_get(text: &[u8]) -> Parsed
+    ensures { λ r. ⌜ ((bytes : List ℕ) → parsedWith r bytes ≡ getIn (now (text .entry))) ⌝ }
+{
+    if text.len() != 4 {
+        return Parsed::Other;
+    }
+    let Octet::Value(page) = digits::two_at(text, 0) else {
+        return Parsed::Other;
+    };
+    let Octet::Value(code) = digits::two_at(text, 2) else {
+        return Parsed::Other;
+    };
+    Parsed::Request(Request::Get { page, code })
+}
+
+// Type E: page, code and value.
+fn parse_set(text: &[u8]) -> Parsed
+    ensures { λ r. ⌜ ((bytes : List ℕ) → parsedWith r bytes ≡ setIn (now (text .entry))) ⌝ }
+{
+    if text.len() != 8 {
+        return Parsed::Other;
+    }
+    let Octet::Value(page) = digits::two_at(text, 0) else {
+        return Parsed::Other;
+    };
+    let Octet::Value(code) = digits::two_at(text, 2) else {
+        return Parsed::Other;
+    };
+    let Word::Value(value) = digits::four_at(text, 4) else {
+        return Parsed::Other;
+    };
+    Parsed::Request(Request::Set { page, code, value })
+}
+
+// Type A, but for the tag write.
+fn parse_command(text: &[u8]) -> Parsed
+    ensures { λ r. ⌜ ((bytes : List ℕ) → parsedWith r bytes ≡ commandIn (now (text .entry))) ⌝ }
+{
+    if field::is_name(b"01D6", text) {
+        return Parsed::Request(Request::PowerRead);
+    }
+    if field::is_name(b"C211", text) {
+        return Parsed::Request(Request::DateRead);
+    }
+    if field::is_name(b"C216", text) {
+        return Parsed::Request(Request::ItemRead(Item::Serial));
+    }
+    if field::is_name(b"C217", text) {
+        return Parsed::Request(Request::ItemRead(Item::Model));
+    }
+    if field::is_name(b"F010", text) {
+        return Parsed::Request(Request::ItemRead(Item::Tag));
+    }
+    if field::is_name(b"F012", text) {
+        return Parsed::Request(Request::ItemRead(Item::FormerTag));
+    }
+    if field::begins_with(b"C203D6", text) {
+        return parse_power_control(&text[6..]);
+    }
+    if field::begins_with(b"C212", text) {
+        return parse_date_write(&text[4..]);
+    }
+    Parsed::Other
+}
+
+// The mode behind C203D6.
+fn parse_power_control(text: &[u8]) -> Parsed
+    ensures { λ r. ⌜ ((bytes : List ℕ) → parsedWith r bytes ≡ powerControlIn (now (text .entry))) ⌝ }
+{
+    if text.len() != 4 {
+        return Parsed::Other;
+    }
+    let Word::Value(mode) = digits::four_at(text, 0) else {
+        return Parsed::Other;
+    };
+    Parsed::Request(Request::PowerControl(mode))
+}
+
+// The date behind C212.
+fn parse_date_write(text: &[u8]) -> Parsed
+    ensures { λ r. ⌜ ((bytes : List ℕ) → parsedWith r bytes ≡ Option·map dateWrite (dateIn (now (text .entry)))) ⌝ }
+{
+    let DateField::Is(date) = field::date_in(text) else {
+        return Parsed::Other;
+    };
+    Parsed::Request(Request::DateWrite(date))
+}
