@@ -123,6 +123,7 @@ fn is_good_beginning(bytes: &[u8], n: usize) -> bool
 // One byte behind the first len, which are a proper beginning. A whole packet is these and the byte.
 pub fn step(held: &mut [u8; 73], len: u8, b: u8) -> Progress
     requires { ⌜ isProperBeginning (take len (now held)) ≡ true ⌝ }
+    ensures { λ r. ⌜ len ≤ 72 ⌝ }
     ensures { λ r. ⌜ stepped r (take (len + 1) (now (held .exit))) ≡ accept (take len (now (held .entry))) b ⌝ }
 {
     let n = len as usize;
