@@ -1,0 +1,6 @@
+pub mod FieldLaws
+pub mod StoreLaws
+pub mod SettingLaws
+pub mod DateLaws
+pub mod TagLaws
+pub mod UnusedLaws

@@ -1,0 +1,61 @@
+-- The unused board's bytes, computed: each field and each setting holds its unused value, the board is on and has no tags.
+use mathlib.Core.Path.{_≡_, refl}
+use mathlib.Core.Bool.{true}
+use mathlib.Core.List.{[]}
+use lib.Dec.{eqb}
+use lib.ListN.{length, getD}
+use borrow.Author.Tests.{eqb-true}
+use Rattle.bitfield.specs.Field.{getField, bit, bitOf}
+use Rattle.store.specs.Layout.{Field, fields, read, fieldsInRange, unusedStore}
+use Rattle.store.specs.declared.settings.Setting.{Setting}
+use Rattle.store.specs.Settings.{rowOf, current}
+use Rattle.store.specs.Contents.{isOn, dateOf, tagOf, formerTagOf}
+use Rattle.store.proofs.StoreLaws.{isField, each, each-one}
+
+pub unused-length : length unusedStore ≡ 128
+unfolding unusedStore
+unused-length = refl
+
+pub unused-mark : getD unusedStore 0 0 ≡ 0
+unfolding unusedStore
+unused-mark = refl
+
+pub unused-in-range : fieldsInRange unusedStore ≡ true
+unfolding fieldsInRange unusedStore getField bit bitOf
+unused-in-range = refl
+
+pub unused-fields : each (λ f. eqb (read unusedStore f) (f .unused)) fields ≡ true
+unfolding unusedStore getField bit bitOf
+unused-fields = refl
+
+pub unused-field : (f : Field) → isField f ≡ true → read unusedStore f ≡ f .unused
+unused-field f e =
+    eqb-true (read unusedStore f) (f .unused) (each-one (λ f. eqb (read unusedStore f) (f .unused)) fields f unused-fields e)
+
+pub unused-setting : (s : Setting) → current unusedStore s ≡ rowOf s .unused
+unfolding current unusedStore getField bit bitOf
+unused-setting Setting.Backlight = refl
+unused-setting Setting.Input = refl
+unused-setting Setting.Balance = refl
+unused-setting Setting.PipH = refl
+unused-setting Setting.PipV = refl
+unused-setting Setting.AmbientLow = refl
+unused-setting Setting.AmbientHigh = refl
+unused-setting Setting.Tile = refl
+
+pub unused-on : isOn unusedStore ≡ true
+unfolding isOn unusedStore getField bit bitOf
+unused-on = refl
+
+-- Saturday 1 January 2000
+pub unused-date : dateOf unusedStore ≡ record { year = 0; month = 1; day = 1; weekday = 6; hour = 0; minute = 0; daylight = 0 }
+unfolding dateOf unusedStore getField bit bitOf
+unused-date = refl
+
+pub unused-tag : tagOf unusedStore ≡ []
+unfolding tagOf unusedStore getField bit bitOf
+unused-tag = refl
+
+pub unused-former-tag : formerTagOf unusedStore ≡ []
+unfolding formerTagOf unusedStore getField bit bitOf
+unused-former-tag = refl

@@ -1,0 +1,15 @@
+-- It is the text at the tag's place, as long as the tag's length says.
+use borrow.Author.Needs.{needs}
+use Rattle.store.specs.Contents.{tagOf}
+use Rattle.store.proofs.contents.tag_of.Statement.{statement}
+use Rattle.store.proofs.contents.tag_of.Tie as tie
+
+text-at-requires : tie.Need-text-at-requires
+text-at-requires c κs = search needs
+
+returns : tie.Need-returns
+unfolding tagOf
+returns c = cc
+
+pub tag-of-spec : {M : Type 1} → statement M
+tag-of-spec = tie.close (tie.spec text-at-requires returns)

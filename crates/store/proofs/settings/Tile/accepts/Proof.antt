@@ -1,0 +1,13 @@
+-- Each test on the way is a test of the definition.
+use Rattle.wire.proofs.Tests.{tests}
+use Rattle.store.proofs.settings.Tile.accepts.Statement.{statement}
+use Rattle.store.proofs.settings.Tile.accepts.Tie as tie
+
+returns : tie.Need-returns
+returns c = search tests
+
+returns-2 : tie.Need-returns-2
+returns-2 c = search tests
+
+pub accepts-spec : {M : Type 1} → statement M
+accepts-spec = tie.close (tie.spec returns returns-2)

@@ -1,0 +1,192 @@
+// Power, date and tags in the store.
+ghost use mathlib.Core.Bool.{true};
+ghost use mathlib.Core.Path.{_≡_};
+ghost use Prim.Native.Nat.{_+_, _≤_};
+ghost use lib.ListN.{length, take, drop};
+ghost use Rattle.bitfield.specs.Field.{getField};
+ghost use Rattle.plan.specs.Plans.{storesOf};
+ghost use Rattle.store.specs.Layout.{fieldStores, power, tagLength, formerLength, read, fitsIn, InHead};
+ghost use Rattle.store.specs.Contents.{isOn, dateOf, isStorable, isAccepted, dateStores, tagOf, formerTagOf, padded, tagStores, textOf};
+use crate::fields;
+use messages::message::Date;
+use plan::Plan;
+
+// Where the tag and the former tag begin.
+const TAG: usize = 12;
+
+const FORMER_TAG: usize = 28;
+
+// Bytes of a tag, the first of the array, as many as count says.
+pub struct Text {
+    pub bytes: [u8; 16],
+    pub count: u8,
+}
+
+// Whether the power is on.
+pub fn is_on(store: &[u8]) -> bool
+    requires { ⌜ length (now store) ≡ 128 ⌝ }
+    ensures { λ r. ⌜ r ≡ isOn (now (store .entry)) ⌝ }
+{
+    bitfield::get(store, fields::POWER_AT, fields::POWER_WIDTH) == 1
+}
+
+// What power on (1) or standby (0) stores.
+pub fn power_stores(store: &[u8], on: u16) -> Plan
+    requires { ⌜ (length (now store) ≡ 128) × (on ≤ 1) ⌝ }
+    ensures { λ r. ⌜ storesOf r ≡ fieldStores (now (store .entry)) power on ⌝ }
+{
+    fields::field_stores(store, fields::POWER_AT, fields::POWER_WIDTH, on)
+}
+
+// The date in the store.
+pub fn date_of(store: &[u8]) -> Date
+    requires { ⌜ length (now store) ≡ 128 ⌝ }
+    ensures { λ r. ⌜ r ≡ dateOf (now (store .entry)) ⌝ }
+{
+    Date {
+        year: bitfield::get(store, fields::YEAR_AT, fields::YEAR_WIDTH) as u8,
+        month: bitfield::get(store, fields::MONTH_AT, fields::MONTH_WIDTH) as u8,
+        day: bitfield::get(store, fields::DAY_AT, fields::DAY_WIDTH) as u8,
+        weekday: bitfield::get(store, fields::WEEKDAY_AT, fields::WEEKDAY_WIDTH) as u8,
+        hour: bitfield::get(store, fields::HOUR_AT, fields::HOUR_WIDTH) as u8,
+        minute: bitfield::get(store, fields::MINUTE_AT, fields::MINUTE_WIDTH) as u8,
+        daylight: 0,
+    }
+}
+
+// Whether a date may be stored.
+pub fn is_storable(date: Date) -> bool
+    ensures { λ r. ⌜ r ≡ isStorable date ⌝ }
+{
+    let year = from_to(0, 99, date.year);
+    let month = from_to(1, 12, date.month);
+    let day = from_to(1, 31, date.day);
+    let weekday = from_to(0, 6, date.weekday);
+    let hour = from_to(0, 23, date.hour);
+    let minute = from_to(0, 59, date.minute);
+    year & month & day & weekday & hour & minute
+}
+
+fn from_to(least: u8, most: u8, v: u8) -> bool
+    ensures { λ r. ⌜ r ≡ fitsIn least most v ⌝ }
+{
+    (least <= v) & (v <= most)
+}
+
+// Whether a date write takes a date.
+pub fn is_accepted(date: Date) -> bool
+    ensures { λ r. ⌜ r ≡ isAccepted date ⌝ }
+{
+    let daylight = date.daylight;
+    is_storable(date) & (daylight == 0)
+}
+
+// What an accepted date stores.
+pub fn date_stores(store: &[u8], date: Date) -> Plan
+    requires { ⌜ length (now store) ≡ 128 ⌝ }
+    requires { ⌜ isStorable date ≡ true ⌝ }
+    ensures { λ r. ⌜ storesOf r ≡ dateStores (now (store .entry)) date ⌝ }
+{
+    let mut head = fields::head_of(store);
+    bitfield::put(
+        &mut head,
+        fields::YEAR_AT,
+        fields::YEAR_WIDTH,
+        date.year as u16,
+    );
+    bitfield::put(
+        &mut head,
+        fields::MONTH_AT,
+        fields::MONTH_WIDTH,
+        date.month as u16,
+    );
+    bitfield::put(
+        &mut head,
+        fields::DAY_AT,
+        fields::DAY_WIDTH,
+        date.day as u16,
+    );
+    bitfield::put(
+        &mut head,
+        fields::WEEKDAY_AT,
+        fields::WEEKDAY_WIDTH,
+        date.weekday as u16,
+    );
+    bitfield::put(
+        &mut head,
+        fields::HOUR_AT,
+        fields::HOUR_WIDTH,
+        date.hour as u16,
+    );
+    bitfield::put(
+        &mut head,
+        fields::MINUTE_AT,
+        fields::MINUTE_WIDTH,
+        date.minute as u16,
+    );
+    Plan::empty().with_range(6, &head[6..11])
+}
+
+// The tag.
+pub fn tag_of(store: &[u8]) -> Text
+    requires { ⌜ (length (now store) ≡ 128) × (read (now store) tagLength ≤ 16) ⌝ }
+    ensures { λ r. ⌜ textOf r ≡ tagOf (now (store .entry)) ⌝ }
+{
+    text_at(store, TAG, fields::TAG_LENGTH_AT)
+}
+
+// The former tag.
+pub fn former_tag_of(store: &[u8]) -> Text
+    requires { ⌜ (length (now store) ≡ 128) × (read (now store) formerLength ≤ 16) ⌝ }
+    ensures { λ r. ⌜ textOf r ≡ formerTagOf (now (store .entry)) ⌝ }
+{
+    text_at(store, FORMER_TAG, fields::FORMER_LENGTH_AT)
+}
+
+// What a tag write stores.
+pub fn tag_stores(store: &[u8], tag: &[u8]) -> Plan
+    requires { ⌜ (length (now store) ≡ 128) × (length (now tag) ≤ 16) ⌝ }
+    ensures { λ r. ⌜ storesOf r ≡ tagStores (now (store .entry)) (now (tag .entry)) ⌝ }
+{
+    let old = bitfield::get(store, fields::TAG_LENGTH_AT, fields::LENGTH_WIDTH);
+    let mut head = fields::head_of(store);
+    bitfield::put(
+        &mut head,
+        fields::FORMER_LENGTH_AT,
+        fields::LENGTH_WIDTH,
+        old,
+    );
+    bitfield::put(
+        &mut head,
+        fields::TAG_LENGTH_AT,
+        fields::LENGTH_WIDTH,
+        tag.len() as u16,
+    );
+    let new = padded_tag(tag);
+    let former = Plan::empty().with_range(28, &store[12..28]);
+    let both = former.with_range(12, &new);
+    both.with_range(10, &head[10..12])
+}
+
+// The bytes from a place on, as many as the five bits at a place say.
+fn text_at(store: &[u8], from: usize, at: usize) -> Text
+    requires { ⌜ (length (now store) ≡ 128) × (from + 16 ≤ 128) × InHead at 5 × (getField (now store) at 5 ≤ 16) ⌝ }
+    ensures { λ r. ⌜ textOf r ≡ take (getField (now (store .entry)) at 5) (drop from (now (store .entry))) ⌝ }
+{
+    let mut bytes = [0u8; 16];
+    wire::digits::put_bytes(&mut bytes, 0, &store[from..from + 16]);
+    Text {
+        bytes,
+        count: bitfield::get(store, at, fields::LENGTH_WIDTH) as u8,
+    }
+}
+
+// A tag, and zeros past it.
+fn padded_tag(tag: &[u8]) -> [u8; 16]
+    requires { ⌜ length (now tag) ≤ 16 ⌝ }
+    ensures { λ r. ⌜ r ≡ padded (now (tag .entry)) ⌝ }
+{
+    let mut bytes = [0u8; 16];
+    wire::digits::put_bytes(&mut bytes, 0, tag);
+    bytes
+}
