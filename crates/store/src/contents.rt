@@ -130,7 +130,7 @@ pub fn date_stores(store: &[u8], date: Date) -> Plan
 // The tag.
 pub fn tag_of(store: &[u8]) -> Text
     requires { ⌜ (length (now store) ≡ 128) × (read (now store) tagLength ≤ 16) ⌝ }
-    ensures { λ r. ⌜ textOf r ≡ tagOf (now (store .entry)) ⌝ }
+    ensures { λ r. ⌜ (textOf r ≡ tagOf (now (store .entry))) × (r .count ≤ 16) ⌝ }
 {
     text_at(store, TAG, fields::TAG_LENGTH_AT)
 }
@@ -138,7 +138,7 @@ pub fn tag_of(store: &[u8]) -> Text
 // The former tag.
 pub fn former_tag_of(store: &[u8]) -> Text
     requires { ⌜ (length (now store) ≡ 128) × (read (now store) formerLength ≤ 16) ⌝ }
-    ensures { λ r. ⌜ textOf r ≡ formerTagOf (now (store .entry)) ⌝ }
+    ensures { λ r. ⌜ (textOf r ≡ formerTagOf (now (store .entry))) × (r .count ≤ 16) ⌝ }
 {
     text_at(store, FORMER_TAG, fields::FORMER_LENGTH_AT)
 }
@@ -171,7 +171,7 @@ pub fn tag_stores(store: &[u8], tag: &[u8]) -> Plan
 // The bytes from a place on, as many as the five bits at a place say.
 fn text_at(store: &[u8], from: usize, at: usize) -> Text
     requires { ⌜ (length (now store) ≡ 128) × (from + 16 ≤ 128) × InHead at 5 × (getField (now store) at 5 ≤ 16) ⌝ }
-    ensures { λ r. ⌜ textOf r ≡ take (getField (now (store .entry)) at 5) (drop from (now (store .entry))) ⌝ }
+    ensures { λ r. ⌜ (textOf r ≡ take (getField (now (store .entry)) at 5) (drop from (now (store .entry)))) × (r .count ≤ 16) ⌝ }
 {
     let mut bytes = [0u8; 16];
     wire::digits::put_bytes(&mut bytes, 0, &store[from..from + 16]);

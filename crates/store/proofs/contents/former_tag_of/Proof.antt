@@ -9,7 +9,7 @@ text-at-requires c κs = search needs
 
 returns : tie.Need-returns
 unfolding formerTagOf
-returns c = cc
+returns c = c .text-at .ensures
 
 pub former-tag-of-spec : {M : Type 1} → statement M
 former-tag-of-spec = tie.close (tie.spec text-at-requires returns)

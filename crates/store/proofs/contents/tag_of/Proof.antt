@@ -9,7 +9,7 @@ text-at-requires c κs = search needs
 
 returns : tie.Need-returns
 unfolding tagOf
-returns c = cc
+returns c = c .text-at .ensures
 
 pub tag-of-spec : {M : Type 1} → statement M
 tag-of-spec = tie.close (tie.spec text-at-requires returns)

@@ -44,7 +44,7 @@ cast-t15 c = search needs
 
 returns : tie.Need-returns
 returns c = let a = c .before .before .before .before .before .before .args in
-    first-of-16 (a .store .now) (replicate 16 0) (a .from) (getField (a .store .now) (a .at) 5) (search needs) refl (search needs) (c .get .ensures) (c .before .before .put-bytes .ensures)
+    (first-of-16 (a .store .now) (replicate 16 0) (a .from) (getField (a .store .now) (a .at) 5) (search needs) refl (search needs) (c .get .ensures) (c .before .before .put-bytes .ensures), search needs)
 
 pub text-at-spec : {M : Type 1} → statement M
 text-at-spec =

@@ -1,0 +1,95 @@
+-- What a good packet does (document 01, the section of that name): to a request belong what is stored, in order, and a reply, or the
+-- beginning of an erase. Anything that is no request gets NULL.
+use mathlib.Core.Bool.{Bool, true, false, cond, _&&_}
+use mathlib.Core.List.{List, []}
+use mathlib.Core.Option.{Option, none, some}
+use Prim.Native.Nat.{ℕ}
+use lib.Dec.{eqb}
+use Rattle.plan.specs.Stores.{Entry}
+use Rattle.messages.specs.Message.{Request, Reply}
+use Rattle.messages.specs.Message.Request.{getParameter, setParameter, powerRead, powerControl, dateRead, dateWrite, itemRead, tagWrite}
+use Rattle.messages.specs.Message.Reply.{null, getReply, setReply, powerReadReply, powerControlReply, dateReadReply, dateWriteReply, itemReply, tagWriteReply}
+use Rattle.messages.specs.declared.message.Date.{Date}
+use Rattle.messages.specs.declared.message.Item.{Item}
+use Rattle.store.specs.Layout.{power, fieldStores}
+use Rattle.store.specs.Settings.{rowOf, fieldOf, settingAt, accepts, kept, current}
+use Rattle.store.specs.Contents.{isOn, dateOf, isAccepted, dateStores, tagOf, formerTagOf, tagStores}
+use Rattle.store.specs.declared.settings.Setting.{Setting}
+use Rattle.erase.specs.Board.{Identity}
+
+-- what a packet brings about: a reply with bytes to store, in order, or the beginning of an erase
+pub data Effect : Type 0 where
+  replies : Reply → List Entry → Effect
+  begins : Effect
+
+-- a reply that changes nothing
+abbrev pub says : Reply → Effect
+says r = replies r []
+
+-- F0/01, the erase
+abbrev pub isErase : ℕ → ℕ → Bool
+isErase page code = eqb page 0xF0 && eqb code 0x01
+
+-- ---- Get
+
+abbrev pub getListed : List ℕ → ℕ → ℕ → Option Setting → Reply
+getListed m page code (some s) = getReply 0 page code 0 (rowOf s .largest) (current m s)
+getListed m page code none = getReply 1 page code 0 0 0
+
+unfoldable pub getEffect : List ℕ → ℕ → ℕ → Effect
+getEffect m page code = says (cond (isErase page code) (getReply 0 page code 1 1 0) (getListed m page code (settingAt page code)))
+
+-- ---- Set: in standby the erase alone is accepted
+
+abbrev pub setListed : List ℕ → ℕ → ℕ → ℕ → Option Setting → Effect
+setListed m page code v (some s) =
+    cond (isOn m && accepts s v)
+    (replies (setReply 0 page code 0 (rowOf s .largest) v) (fieldStores m (fieldOf s) (kept s v)))
+    (says (setReply 1 page code 0 (rowOf s .largest) v))
+setListed m page code v none = says (setReply 1 page code 0 0 v)
+
+unfoldable pub setEffect : List ℕ → ℕ → ℕ → ℕ → Effect
+setEffect m page code v =
+    cond (isErase page code)
+    (cond (eqb v 1) begins (says (setReply 1 page code 1 1 v)))
+    (setListed m page code v (settingAt page code))
+
+-- ---- power: mode 1 is on, 4 standby; another mode gets status 01
+
+unfoldable pub powerReadEffect : List ℕ → Effect
+powerReadEffect m = says (powerReadReply 0 (cond (isOn m) 1 4))
+
+unfoldable pub powerControlEffect : List ℕ → ℕ → Effect
+powerControlEffect m mode =
+    cond (eqb mode 1) (replies (powerControlReply 0 mode) (fieldStores m power 1))
+    (cond (eqb mode 4) (replies (powerControlReply 0 mode) (fieldStores m power 0))
+    (says (powerControlReply 1 mode)))
+
+-- ---- date
+
+unfoldable pub dateWriteEffect : List ℕ → Date → Effect
+dateWriteEffect m d = cond (isAccepted d) (replies (dateWriteReply 0 d) (dateStores m d)) (says (dateWriteReply 1 d))
+
+-- ---- serial number, model and tags
+
+abbrev pub itemOf : Identity → List ℕ → Item → List ℕ
+itemOf i m Item.Serial = i .serial
+itemOf i m Item.Model = i .model
+itemOf i m Item.Tag = tagOf m
+itemOf i m Item.FormerTag = formerTagOf m
+
+-- ---- all requests
+
+unfoldable pub effectOf : Identity → List ℕ → Request → Effect
+effectOf i m (getParameter page code) = getEffect m page code
+effectOf i m (setParameter page code v) = setEffect m page code v
+effectOf i m powerRead = powerReadEffect m
+effectOf i m (powerControl mode) = powerControlEffect m mode
+effectOf i m dateRead = says (dateReadReply (dateOf m))
+effectOf i m (dateWrite d) = dateWriteEffect m d
+effectOf i m (itemRead x) = says (itemReply x (itemOf i m x))
+effectOf i m (tagWrite tag) = replies (tagWriteReply 0 tag) (tagStores m tag)
+
+abbrev pub effect : Identity → List ℕ → Option Request → Effect
+effect i m (some r) = effectOf i m r
+effect i m none = says null

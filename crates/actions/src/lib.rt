@@ -1,0 +1,274 @@
+// What a request does: a decision on the store as it is.
+ghost use mathlib.Core.Bool.{cond};
+ghost use mathlib.Core.List.{List, []};
+ghost use mathlib.Core.Path.{_≡_};
+ghost use Prim.Native.Nat.{ℕ, _≤_};
+ghost use lib.Dec.{eqb};
+ghost use lib.ListN.{take};
+ghost use Rattle.plan.specs.Plans.{storesOf};
+ghost use Rattle.messages.specs.View.{replyOf, replyCount};
+ghost use Rattle.parser.specs.View.{parsed};
+ghost use Rattle.actions.specs.Act.{effect, getEffect, setEffect, powerReadEffect, powerControlEffect, dateWriteEffect, isErase, itemOf, says, replies, begins};
+ghost use Rattle.store.specs.Contents.{tagStores, textOf};
+ghost use Rattle.messages.specs.Message.Reply.{setReply, itemReply, tagWriteReply};
+ghost use Rattle.actions.specs.View.{Decides, identityOf, Ready};
+use messages::message::Date;
+use messages::message::DateAnswer;
+use messages::message::Item;
+use messages::message::Outcome;
+use messages::message::Parameter;
+use messages::message::PowerMode;
+use messages::message::Reply;
+use messages::message::Request;
+use parser::parse::Parsed;
+use parser::parse::ParsedRequest;
+use plan::Plan;
+use store::contents;
+use store::contents::Text;
+use store::settings::Found;
+use store::settings::Setting;
+
+// A reply, or the beginning of an erase.
+pub enum Effect {
+    Replies(Reply),
+    Begins,
+}
+
+// What a request does: its effect, what it stores, and the bytes that go with the reply.
+pub struct Decision {
+    pub effect: Effect,
+    pub plan: Plan,
+    pub bytes: [u8; 16],
+}
+
+// What a packet's text does: the request in it, or NULL.
+pub fn decide(id: u8, serial: Text, model: Text, asked: ParsedRequest, store: &[u8]) -> Decision
+    requires { ⌜ Ready (now store) ⌝ }
+    requires { ⌜ (serial .count ≤ 16) × (model .count ≤ 16) ⌝ }
+    ensures { λ r. ⌜ Decides r (effect (identityOf id serial model) (now (store .entry)) (parsed asked)) ⌝ }
+{
+    let parsed = asked.parsed;
+    let bytes = asked.bytes;
+    let Parsed::Request(request) = parsed else {
+        return unchanged(Reply::Null);
+    };
+    match request {
+        Request::Get { page, code } => {
+            return get(page, code, store);
+        }
+        Request::Set { page, code, value } => {
+            return set(page, code, value, store);
+        }
+        Request::PowerRead => {
+            return power_read(store);
+        }
+        Request::PowerControl(mode) => {
+            return power_control(mode, store);
+        }
+        Request::DateRead => {
+            return unchanged(Reply::Date(DateAnswer::Read(contents::date_of(store))));
+        }
+        Request::DateWrite(date) => {
+            return date_write(date, store);
+        }
+        Request::ItemRead(item) => {
+            return item_read(id, serial, model, item, store);
+        }
+        Request::TagWrite(count) => {
+            return tag_write(bytes, count, store);
+        }
+    }
+}
+
+// A reply that stores nothing and has no bytes beside it.
+fn unchanged(reply: Reply) -> Decision
+    requires { ⌜ replyCount reply ≡ 0 ⌝ }
+    ensures { λ r. ⌜ ((bytes : List ℕ) → Decides r (says (replyOf reply bytes))) ⌝ }
+{
+    let plan = Plan::empty();
+    Decision {
+        effect: Effect::Replies(reply),
+        plan,
+        bytes: [0u8; 16],
+    }
+}
+
+// A reply with what its request stores.
+fn changed(reply: Reply, plan: Plan) -> Decision
+    requires { ⌜ replyCount reply ≡ 0 ⌝ }
+    ensures { λ r. ⌜ ((bytes : List ℕ) → Decides r (replies (replyOf reply bytes) (storesOf plan))) ⌝ }
+{
+    Decision {
+        effect: Effect::Replies(reply),
+        plan,
+        bytes: [0u8; 16],
+    }
+}
+
+// Get: the erase, a setting, or an unlisted pair.
+fn get(page: u8, code: u8, store: &[u8]) -> Decision
+    requires { ⌜ Ready (now store) ⌝ }
+    ensures { λ r. ⌜ Decides r (getEffect (now (store .entry)) page code) ⌝ }
+{
+    if is_erase(page, code) {
+        return unchanged(Reply::Got(Outcome::Acknowledged, parameter(page, code, 1, 1, 0)));
+    }
+    let Found::Setting(setting) = Setting::at(page, code) else {
+        return unchanged(Reply::Got(Outcome::Refused, parameter(page, code, 0, 0, 0)));
+    };
+    let row = setting.row();
+    let value = setting.current(store);
+    unchanged(Reply::Got(
+        Outcome::Acknowledged,
+        parameter(page, code, 0, row.largest, value),
+    ))
+}
+
+// Set: the erase, a setting, or an unlisted pair.
+fn set(page: u8, code: u8, value: u16, store: &[u8]) -> Decision
+    requires { ⌜ Ready (now store) ⌝ }
+    ensures { λ r. ⌜ Decides r (setEffect (now (store .entry)) page code value) ⌝ }
+{
+    if is_erase(page, code) {
+        return set_erase(page, code, value);
+    }
+    let Found::Setting(setting) = Setting::at(page, code) else {
+        return unchanged(Reply::Set(Outcome::Refused, parameter(page, code, 0, 0, value)));
+    };
+    let row = setting.row();
+    let shown = parameter(page, code, 0, row.largest, value);
+    if !contents::is_on(store) {
+        return unchanged(Reply::Set(Outcome::Refused, shown));
+    }
+    if !setting.accepts(value) {
+        return unchanged(Reply::Set(Outcome::Refused, shown));
+    }
+    let plan = setting.stores(store, value);
+    changed(Reply::Set(Outcome::Acknowledged, shown), plan)
+}
+
+// Set of the erase: 1 begins it.
+fn set_erase(page: u8, code: u8, value: u16) -> Decision
+    ensures { λ r. ⌜ Decides r (cond (eqb value 1) begins (says (setReply 1 page code 1 1 value))) ⌝ }
+{
+    if value != 1 {
+        return unchanged(Reply::Set(Outcome::Refused, parameter(page, code, 1, 1, value)));
+    }
+    let plan = Plan::empty();
+    Decision {
+        effect: Effect::Begins,
+        plan,
+        bytes: [0u8; 16],
+    }
+}
+
+// The power status: on, or standby.
+fn power_read(store: &[u8]) -> Decision
+    requires { ⌜ Ready (now store) ⌝ }
+    ensures { λ r. ⌜ Decides r (powerReadEffect (now (store .entry))) ⌝ }
+{
+    if contents::is_on(store) {
+        return unchanged(Reply::PowerStatus(Outcome::Acknowledged, PowerMode::On));
+    }
+    unchanged(Reply::PowerStatus(Outcome::Acknowledged, PowerMode::Standby))
+}
+
+// Power control: mode 1 is on, 4 standby.
+fn power_control(mode: u16, store: &[u8]) -> Decision
+    requires { ⌜ Ready (now store) ⌝ }
+    ensures { λ r. ⌜ Decides r (powerControlEffect (now (store .entry)) mode) ⌝ }
+{
+    if mode == 1 {
+        let plan = contents::power_stores(store, 1);
+        return changed(Reply::PowerControl(Outcome::Acknowledged, mode), plan);
+    }
+    if mode == 4 {
+        let plan = contents::power_stores(store, 0);
+        return changed(Reply::PowerControl(Outcome::Acknowledged, mode), plan);
+    }
+    unchanged(Reply::PowerControl(Outcome::Refused, mode))
+}
+
+// A date write.
+fn date_write(date: Date, store: &[u8]) -> Decision
+    requires { ⌜ Ready (now store) ⌝ }
+    ensures { λ r. ⌜ Decides r (dateWriteEffect (now (store .entry)) date) ⌝ }
+{
+    if !contents::is_accepted(date) {
+        return unchanged(Reply::Date(DateAnswer::Written(Outcome::Refused, date)));
+    }
+    let plan = contents::date_stores(store, date);
+    changed(
+        Reply::Date(DateAnswer::Written(Outcome::Acknowledged, date)),
+        plan,
+    )
+}
+
+// Serial number, model, tag or former tag.
+fn item_read(id: u8, serial: Text, model: Text, item: Item, store: &[u8]) -> Decision
+    requires { ⌜ Ready (now store) ⌝ }
+    requires { ⌜ (serial .count ≤ 16) × (model .count ≤ 16) ⌝ }
+    ensures { λ r. ⌜ Decides r (says (itemReply item (itemOf (identityOf id serial model) (now (store .entry)) item))) ⌝ }
+{
+    match item {
+        Item::Serial => {
+            return text_reply(item, serial);
+        }
+        Item::Model => {
+            return text_reply(item, model);
+        }
+        Item::Tag => {
+            return text_reply(item, contents::tag_of(store));
+        }
+        Item::FormerTag => {
+            return text_reply(item, contents::former_tag_of(store));
+        }
+    }
+}
+
+// A reply that carries a text.
+fn text_reply(item: Item, text: Text) -> Decision
+    requires { ⌜ text .count ≤ 16 ⌝ }
+    ensures { λ r. ⌜ Decides r (says (itemReply item (textOf text))) ⌝ }
+{
+    let plan = Plan::empty();
+    let bytes = text.bytes;
+    Decision {
+        effect: Effect::Replies(Reply::Item(item, text.count)),
+        plan,
+        bytes,
+    }
+}
+
+// A tag write. A count past the array counts the array.
+fn tag_write(bytes: [u8; 16], count: u8, store: &[u8]) -> Decision
+    requires { ⌜ Ready (now store) ⌝ }
+    ensures { λ r. ⌜ Decides r (replies (tagWriteReply 0 (take count bytes)) (tagStores (now (store .entry)) (take count bytes))) ⌝ }
+{
+    let held = if count < 16 { count } else { 16 };
+    let n = held as usize;
+    let plan = contents::tag_stores(store, &bytes[..n]);
+    Decision {
+        effect: Effect::Replies(Reply::TagWritten(Outcome::Acknowledged, held)),
+        plan,
+        bytes,
+    }
+}
+
+fn is_erase(page: u8, code: u8) -> bool
+    ensures { λ r. ⌜ r ≡ isErase page code ⌝ }
+{
+    (page == 0xF0) & (code == 0x01)
+}
+
+fn parameter(page: u8, code: u8, operation: u8, largest: u16, value: u16) -> Parameter
+    ensures { λ r. ⌜ r ≡ record { page = page; code = code; operation = operation; largest = largest; value = value } ⌝ }
+{
+    Parameter {
+        page,
+        code,
+        operation,
+        largest,
+        value,
+    }
+}

@@ -1,0 +1,198 @@
+-- What a good packet stores, request by request, by the store's laws: few bytes, within the store, not the mark, and every field stays in range.
+use mathlib.Core.Path.{_≡_, refl, _∙_, subst}
+use mathlib.Core.Bool.{Bool, true, cond, _&&_}
+use mathlib.Core.List.{List, [], _∷_}
+use mathlib.Core.Logic.{inl}
+use mathlib.Core.Option.{Option, none, some, bind, Option·map}
+use Prim.Native.Nat.{ℕ, _≤_}
+use native.Mathlib.Omega.{arith}
+use lib.Dec.{eqb}
+use lib.ListN.{length, getD, drop}
+use Rattle.plan.specs.Stores.{Entry, applied, Within, Ready}
+use Rattle.plan.proofs.Laws.{applied-length}
+use Rattle.wire.specs.Digits.{twoAt, fourAt, bytesOf}
+use Rattle.wire.proofs.DigitLaws.{cond-by, bytes-few}
+use Rattle.messages.specs.Message.{Request, Reply}
+use Rattle.messages.specs.Message.Request.{getParameter, setParameter, powerRead, powerControl, dateRead, dateWrite, itemRead, tagWrite}
+use Rattle.messages.specs.Text.{typeA, typeC, typeE, powerReadName, powerControlName, dateReadName, dateWriteName, itemReadName, tagWriteName}
+use Rattle.messages.specs.Read.{beginsWith, isName, dateIn, getIn, setIn, powerControlIn, commandIn, requestIn}
+use Rattle.messages.specs.declared.message.Date.{Date}
+use Rattle.messages.specs.declared.message.Item.{Item}
+use Rattle.store.specs.Layout.{Field, fits, power, fieldStores, fieldsInRange}
+use Rattle.store.specs.Settings.{fieldOf, settingAt, accepts, kept}
+use Rattle.store.specs.Contents.{isOn, isStorable, isAccepted, dateStores, tagStores}
+use Rattle.store.specs.declared.settings.Setting.{Setting}
+use Rattle.store.proofs.StoreLaws.{both, isField, field-keeps-mark, in-range-write, field-applied, field-few, field-within}
+use Rattle.store.proofs.SettingLaws.{setting-field, kept-fits}
+use Rattle.store.proofs.DateLaws.{date-keeps-byte, in-range-date, date-applied, date-count, date-within}
+use Rattle.store.proofs.TagLaws.{tag-count, tag-within, tag-written, in-range-tag}
+use Rattle.erase.specs.Board.{Identity}
+use Rattle.actions.specs.Act.{
+  Effect,
+  replies,
+  begins,
+  isErase,
+  getEffect,
+  setListed,
+  setEffect,
+  powerReadEffect,
+  powerControlEffect,
+  dateWriteEffect,
+  effectOf,
+  effect,
+}
+
+-- ---- a tag that was read has at most 16 bytes
+
+abbrev pub FewIn : Request → Type 0
+FewIn (getParameter page code) = Unit {0}
+FewIn (setParameter page code value) = Unit {0}
+FewIn powerRead = Unit {0}
+FewIn (powerControl mode) = Unit {0}
+FewIn dateRead = Unit {0}
+FewIn (dateWrite d) = Unit {0}
+FewIn (itemRead x) = Unit {0}
+FewIn (tagWrite tag) = length tag ≤ 16
+
+abbrev pub Few : Option Request → Type 0
+Few none = Unit {0}
+Few (some r) = FewIn r
+
+bind-few : {A : Type 0} (o : Option A) (f : A → Option Request) → ((a : A) → Few (f a)) → Few (bind o f)
+unfolding bind
+bind-few none f h = tt
+bind-few (some a) f h = h a
+
+map-few : {A : Type 0} (f : A → Request) (o : Option A) → ((a : A) → o ≡ some a → FewIn (f a)) → Few (Option·map f o)
+map-few f none h = tt
+map-few f (some a) h = h a refl
+
+test-few : (t : Bool) (x y : Option Request) → Few x → Few y → Few (cond t x y)
+test-few t x y p q = cond-by Few t x y (λ _. p) (λ _. q)
+
+get-few : (t : List ℕ) → Few (getIn t)
+unfolding getIn
+get-few t = test-few (eqb (length t) 4) _ _ (bind-few (twoAt t 0) _ (λ page. bind-few (twoAt t 2) _ (λ code. tt))) tt
+
+set-few : (t : List ℕ) → Few (setIn t)
+unfolding setIn
+set-few t =
+    test-few (eqb (length t) 8) _ _
+    (bind-few (twoAt t 0) _ (λ page. bind-few (twoAt t 2) _ (λ code. bind-few (fourAt t 4) _ (λ value. tt)))) tt
+
+power-few : (t : List ℕ) → Few (powerControlIn t)
+unfolding powerControlIn
+power-few t = test-few (eqb (length t) 4) _ _ (bind-few (fourAt t 0) _ (λ mode. tt)) tt
+
+command-few : (t : List ℕ) → Few (commandIn t)
+unfolding commandIn
+command-few t =
+    test-few (isName powerReadName t) _ _ tt
+    (test-few (isName dateReadName t) _ _ tt
+    (test-few (isName (itemReadName Item.Serial) t) _ _ tt
+    (test-few (isName (itemReadName Item.Model) t) _ _ tt
+    (test-few (isName (itemReadName Item.Tag) t) _ _ tt
+    (test-few (isName (itemReadName Item.FormerTag) t) _ _ tt
+    (test-few (beginsWith powerControlName t) _ _ (power-few (drop 6 t))
+    (test-few (beginsWith dateWriteName t) _ _ (map-few dateWrite (dateIn (drop 4 t)) (λ d e. tt)) tt)))))))
+
+pub request-few : (kind : ℕ) (t : List ℕ) → Few (requestIn kind t)
+unfolding requestIn
+request-few kind t =
+    test-few (eqb kind typeC) _ _ (get-few t)
+    (test-few (eqb kind typeE) _ _ (set-few t)
+    (test-few (eqb kind typeA) _ _
+    (test-few (beginsWith tagWriteName t) _ _ (map-few tagWrite (bytesOf (drop 4 t)) (λ tag e. bytes-few (drop 4 t) e)) (command-few t)) tt))
+
+-- ---- what the stores of a request keep
+
+-- entries that a plan and the store can take, that leave the mark, and every field in range
+pub record Keeps (m : List ℕ) (es : List Entry) : Type 0 where
+  pub ready : Ready 128 es
+  pub mark : getD (applied es m) 0 0 ≡ getD m 0 0
+  pub ranged : fieldsInRange (applied es m) ≡ true
+
+abbrev pub Kept : List ℕ → Effect → Type 0
+Kept m (replies r es) = Keeps m es
+Kept m begins = Unit {0}
+
+within-head : (es : List Entry) → Within 12 es → Within 128 es
+within-head [] w = tt
+within-head (e ∷ es) w = (omega arith, within-head es (w .1))
+
+module _ (m : List ℕ) (size : length m ≡ 128) (ranged : fieldsInRange m ≡ true) where
+  none-keeps : Keeps m []
+  none-keeps = record { ready = record { few = omega arith; within = tt }; mark = refl; ranged = ranged }
+
+  -- one field
+  field-keeps : (f : Field) (v : ℕ) → isField f ≡ true → fits f v ≡ true → Keeps m (fieldStores m f v)
+  field-keeps f v e h =
+      let is = field-applied m f v e (omega arith) in
+      record {
+        ready = record { few = omega (arith, field-few m f v e); within = within-head (fieldStores m f v) (field-within m f v e) };
+        mark = rw is (field-keeps-mark m f v e);
+        ranged = rw is (in-range-write m f v e (omega arith) h ranged);
+      }
+
+  date-keeps : (d : Date) → isAccepted d ≡ true → Keeps m (dateStores m d)
+  unfolding isAccepted
+  date-keeps d h =
+      let is = date-applied m d (omega arith) in
+      let storable = both (isStorable d) (eqb (d .daylight) 0) h .0 in
+      record {
+        ready = record { few = omega (arith, date-count m d (omega arith)); within = within-head (dateStores m d) (date-within m d) };
+        mark = rw is (date-keeps-byte m d 0 (inl (omega arith)));
+        ranged = rw is (in-range-date m d (omega arith) storable ranged);
+      }
+
+  tag-keeps : (tag : List ℕ) → length tag ≤ 16 → Keeps m (tagStores m tag)
+  tag-keeps tag h =
+      record {
+        ready = record { few = omega (arith, tag-count m tag size h); within = tag-within m tag size h };
+        mark = tag-written m tag size h .outside 0 (inl (omega arith));
+        ranged = in-range-tag m tag size h ranged;
+      }
+
+  set-keeps : (page code v : ℕ) (s : Option Setting) → Kept m (setListed m page code v s)
+  set-keeps page code v none = none-keeps
+  set-keeps page code v (some s) =
+      cond-by (Kept m) (isOn m && accepts s v) _ _
+      (λ t. field-keeps (fieldOf s) (kept s v) (setting-field s) (kept-fits s v (both (isOn m) (accepts s v) t .1))) (λ _. none-keeps)
+
+  request-keeps : (i : Identity) (r : Request) → FewIn r → Kept m (effectOf i m r)
+  unfolding effectOf getEffect setEffect powerReadEffect powerControlEffect dateWriteEffect
+  request-keeps i (getParameter page code) h = none-keeps
+  request-keeps i (setParameter page code v) h =
+      cond-by (Kept m) (isErase page code) _ _
+      (λ _. cond-by (Kept m) (eqb v 1) _ _ (λ _. tt) (λ _. none-keeps)) (λ _. set-keeps page code v (settingAt page code))
+  request-keeps i powerRead h = none-keeps
+  request-keeps i (powerControl mode) h =
+      cond-by (Kept m) (eqb mode 1) _ _ (λ _. field-keeps power 1 refl refl)
+      (λ _. cond-by (Kept m) (eqb mode 4) _ _ (λ _. field-keeps power 0 refl refl) (λ _. none-keeps))
+  request-keeps i dateRead h = none-keeps
+  request-keeps i (dateWrite d) h = cond-by (Kept m) (isAccepted d) _ _ (λ t. date-keeps d t) (λ _. none-keeps)
+  request-keeps i (itemRead x) h = none-keeps
+  request-keeps i (tagWrite tag) h = tag-keeps tag h
+
+  pub option-keeps : (i : Identity) (q : Option Request) → Few q → Kept m (effect i m q)
+  option-keeps i none h = none-keeps
+  option-keeps i (some r) h = request-keeps i r h
+
+-- ---- every effect of a text, on a store in range
+
+module _ (i : Identity) (m : List ℕ) (kind : ℕ) (text : List ℕ) {r : Reply} {es : List Entry} (size : length m ≡ 128)
+    (ranged : fieldsInRange m ≡ true) (is : effect i m (requestIn kind text) ≡ replies r es) where
+  pub effect-keeps : Keeps m es
+  effect-keeps = subst (Kept m) is (option-keeps m size ranged i (requestIn kind text) (request-few kind text))
+
+  pub effect-ready : Ready 128 es
+  effect-ready = effect-keeps .ready
+
+  pub effect-few : length es ≤ 40
+  effect-few = effect-ready .few
+
+  pub effect-within : Within 128 es
+  effect-within = effect-ready .within
+
+  pub effect-length : length (applied es m) ≡ 128
+  effect-length = applied-length es m ∙ size

@@ -1,0 +1,75 @@
+-- The erase request, fed to any sound board with no erase pending, on or in standby, begins an erase with its last byte.
+use mathlib.Core.Path.{_≡_, refl, ap, sym, _∙_}
+use mathlib.Core.Bool.{true}
+use mathlib.Core.List.{List, [], _∷_, _++_}
+use mathlib.Core.Logic.{_⊎_, ⊎-elim}
+use Prim.Native.Nat.{ℕ, _+_, _≤_, _<_}
+use native.Mathlib.Omega.{arith}
+use lib.Dec.{eqb}
+use lib.ListN.{length, getD, replicate}
+use borrow.Author.Tests.{eqb-false}
+use Rattle.wire.specs.Packet.{packet, zeroByte, textOf}
+use Rattle.wire.proofs.DigitLaws.{cond-by}
+use Rattle.wire.proofs.PacketLaws.{text-packet}
+use Rattle.messages.specs.Message.Request.{setParameter}
+use Rattle.messages.specs.Text.{typeE, requestType, requestText}
+use Rattle.messages.specs.Read.{requestIn}
+use Rattle.messages.proofs.RoundTrips.{request-back}
+use Rattle.erase.specs.Board.{Identity, Answer, waiting, begun, idle}
+use Rattle.erase.specs.Calls.{isSound}
+use Rattle.erase.specs.Lists.{call, answered, seen, run}
+use Rattle.actions.specs.Act.{begins, effect, effectOf, setEffect}
+use Rattle.board.specs.Calls.{gap, does, holding, State₁, Addressee, own, all, addressee, toOwn, toAll, onPacketTo, onPacket, thisBoard}
+use Rattle.board.specs.Demand3.{Events, answersIn, eraseRequest}
+use Rattle.board.proofs.BoardLaws.{named-told, Resting, resting, resting-sound, holds-others, nothing-proper}
+use Rattle.board.proofs.Numbers.{eraseText, erasePacket, request-bytes}
+use Rattle.board.proofs.PacketFed.{call-done, fed, packet-answered}
+
+-- on or in standby, it begins an erase
+erase-begins : (i : Identity) (m : List ℕ) (dest : ℕ) → effect i m (requestIn (getD (erasePacket dest) 4 0) (textOf (erasePacket dest))) ≡ begins
+unfolding erasePacket eraseText packet requestText requestType effectOf setEffect
+erase-begins i m dest =
+    rw (text-packet dest zeroByte typeE eraseText (omega arith), request-back (setParameter 0xF0 0x01 1) (omega arith, omega arith, omega arith))
+
+module _ (i : Identity) (m lent : List ℕ) (dest : ℕ) where
+  abbrev Begun : Addressee → Type 0
+  Begun a = onPacketTo a i m (erasePacket dest) lent .answer ≡ begun
+
+  own-begins : Begun own
+  unfolding onPacketTo toOwn
+  own-begins = rw (erase-begins i m dest)
+
+  all-begins : Begun all
+  unfolding onPacketTo toAll
+  all-begins = rw (erase-begins i m dest)
+
+  -- to its ID and to ALL
+  packet-begins : (dest ≡ 0x40 + i .id) ⊎ (dest ≡ 0x2A) → onPacket i m (erasePacket dest) lent .answer ≡ begun
+  unfolding onPacket addressee erasePacket packet
+  packet-begins to =
+      cond-by Begun (eqb dest (0x40 + i .id)) _ _ (λ _. own-begins)
+      (λ t. cond-by Begun (eqb dest 0x2A) _ _ (λ _. all-begins) (λ u. absurd (⊎-elim (eqb-false dest (0x40 + i .id) t) (eqb-false dest 0x2A u) to)))
+
+-- ---- byte by byte
+
+gap-seen : (s : State₁) (m lent : List ℕ) (es : Events) → isSound thisBoard s m ≡ true → s .erase ≡ idle
+    → run thisBoard (s .ident) s m (call gap lent ∷ es) ≡ answered waiting lent m ∷ run thisBoard (s .ident) (holding (s .ident) []) m es
+unfolding run seen does
+gap-seen s m lent es h q = rw (call-done gap s m lent refl h q)
+
+request-answered : (i : Identity) (m lent : List ℕ) (dest : ℕ) → Resting i [] m → 64 ≤ length lent → (dest ≡ 0x40 + i .id) ⊎ (dest ≡ 0x2A)
+    → answersIn (run thisBoard i (holding i []) m (fed lent (eraseRequest dest))) ≡ replicate 18 waiting ++ (begun ∷ [])
+unfolding erasePacket eraseText requestText
+request-answered i m lent dest r room to =
+    let small : dest < 256 = ⊎-elim (λ e. omega (arith, named-told i (r .named) .most)) (λ e. omega arith) to in
+    ap (λ (p : List ℕ). answersIn (run thisBoard i (holding i []) m (fed lent p))) (sym (request-bytes dest small))
+    ∙ packet-answered (holding i []) m lent dest typeE eraseText (resting-sound r) refl refl room refl (omega arith) (omega arith)
+    ∙ ap (λ (a : Answer ℕ). replicate 18 waiting ++ (a ∷ [])) (packet-begins i m lent dest to)
+
+pub acceptable : (s : State₁) (m lent : List ℕ) (dest : ℕ) → isSound thisBoard s m ≡ true → s .erase ≡ idle → 64 ≤ length lent
+    → (dest ≡ 0x40 + s .ident .id) ⊎ (dest ≡ 0x2A)
+    → answersIn (run thisBoard (s .ident) s m (call gap lent ∷ fed lent (eraseRequest dest))) ≡ replicate 19 waiting ++ (begun ∷ [])
+unfolding answersIn
+acceptable s m lent dest h q room to =
+    ap answersIn (gap-seen s m lent (fed lent (eraseRequest dest)) h q)
+    ∙ ap (λ (l : List (Answer ℕ)). waiting ∷ l) (request-answered (s .ident) m lent dest (holds-others [] nothing-proper (resting s m q h)) room to)

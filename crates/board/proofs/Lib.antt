@@ -1,0 +1,14 @@
+pub mod EffectLaws
+pub mod DecisionLaws
+pub mod BoardLaws
+pub mod ReplyLaws
+pub mod SendLaws
+pub mod RefusalLaws
+pub mod Bounds
+pub mod PacketFed
+pub mod Numbers
+pub mod EraseRequest
+pub mod Demand3
+pub mod Theorems
+pub mod StartLaws
+pub mod CallLaws

@@ -1,0 +1,158 @@
+-- What a refused call or step leaves: the receiver refuses with 1 to 7 and then holds nothing, a packet with 8, and every other refusal is by the checks.
+use mathlib.Core.Path.{_≡_, refl, ap, sym, _∙_}
+use mathlib.Core.Bool.{Bool, true, false, cond, not}
+use mathlib.Core.List.{List, [], _∷_, _++_}
+use mathlib.Core.Logic.{_⊎_, inl, inr}
+use Prim.Native.Nat.{ℕ, _-_, _≤_}
+use native.Mathlib.Omega.{arith}
+use lib.Dec.{ltb, eqb}
+use lib.ListN.{length, getD}
+use Rattle.wire.specs.Packet.{soh, stx, etx, cr, zeroByte, size, checkCode, textOf}
+use Rattle.wire.specs.Judge as judge
+use Rattle.wire.proofs.DigitLaws.{cond-by}
+use Rattle.messages.specs.Read.{requestIn}
+use Rattle.receiver.specs.Receive as receive
+use Rattle.erase.specs.Board.{Identity, waiting, refused, idle, pending}
+use Rattle.erase.specs.Calls.{refuse, stepOn, onCall, onStep}
+use Rattle.erase.proofs.Steps.{Called, Stepped, refuses, does, clears, called, stepped, step-clears-or-ends}
+use Rattle.actions.specs.Act.{Effect, replies, begins, effect}
+use Rattle.board.specs.Calls.{
+  Call,
+  byte,
+  gap,
+  State₁,
+  Left₁,
+  answers,
+  Addressee,
+  own,
+  all,
+  another,
+  addressee,
+  toOwn,
+  toAll,
+  onPacketTo,
+  onPacket,
+  onReceipt,
+  lastAnswer,
+  thisBoard,
+}
+use Rattle.board.specs.Calls as board
+use Rattle.board.proofs.BoardLaws.{nothing-is}
+
+-- ---- the receiver's refusals
+
+abbrev Numbered : judge.Verdict → Type 0
+Numbered judge.good = Unit {0}
+Numbered (judge.refused n) = (2 ≤ n) × (n ≤ 7)
+
+tested : (t : Bool) (n : ℕ) (v : judge.Verdict) → 2 ≤ n → n ≤ 7 → Numbered v → Numbered (cond (not t) (judge.refused n) v)
+tested true n v low high h = h
+tested false n v low high h = (low, high)
+
+header-numbered : (g : List ℕ) → Numbered (judge.headerVerdict g)
+unfolding judge.headerVerdict
+header-numbered g =
+    tested (eqb (getD g 1 0) zeroByte) 2 _ (omega arith) (omega arith)
+    (tested (eqb (getD g 3 0) zeroByte) 2 _ (omega arith) (omega arith)
+    (tested (judge.isRequestType (getD g 4 0)) 3 _ (omega arith) (omega arith)
+    (tested (judge.isLength g) 4 judge.good (omega arith) (omega arith) tt)))
+
+packet-numbered : (g : List ℕ) → Numbered (judge.packetVerdict g)
+unfolding judge.packetVerdict
+packet-numbered g =
+    tested (eqb (getD g (size g - 1) 0) cr) 5 _ (omega arith) (omega arith)
+    (tested (eqb (getD g (size g - 2) 0) (checkCode g)) 6 _ (omega arith) (omega arith)
+    (tested (eqb (getD g 7 0) stx) 7 _ (omega arith) (omega arith)
+    (tested (eqb (getD g (size g - 3) 0) etx) 7 judge.good (omega arith) (omega arith) tt)))
+
+-- a refusal leaves nothing held; with 1 nothing was held before
+abbrev Declined : List ℕ → receive.Answer → List ℕ → Type 0
+Declined held receive.waiting left = Unit {0}
+Declined held (receive.refused n) left = (left ≡ []) × (((n ≡ 1) × (held ≡ [])) ⊎ ((2 ≤ n) × (n ≤ 7)))
+Declined held (receive.whole p) left = Unit {0}
+
+abbrev Declines : List ℕ → receive.Receipt → Type 0
+Declines held r = Declined held (r .answer) (r .held)
+
+judged-declines : (held : List ℕ) (v : judge.Verdict) (r : receive.Receipt) → Numbered v → Declines held r → Declines held (receive.judged v r)
+judged-declines held judge.good r n h = h
+judged-declines held (judge.refused k) r n h = (refl, inr n)
+
+grown-declines : (held g : List ℕ) → Declines held (receive.grown g)
+unfolding receive.grown
+grown-declines held g =
+    cond-by (Declines held) (ltb (length g) 7) _ _ (λ _. tt)
+    (λ _. cond-by (Declines held) (eqb (length g) 7) _ _ (λ _. judged-declines held (judge.headerVerdict g) (receive.keeps g) (header-numbered g) tt)
+    (λ _. cond-by (Declines held) (ltb (length g) (size g)) _ _ (λ _. tt)
+    (λ _. judged-declines held (judge.packetVerdict g) (receive.delivers g) (packet-numbered g) tt)))
+
+accept-declines : (held : List ℕ) (b : ℕ) → Declines held (receive.accept held b)
+unfolding receive.accept
+accept-declines held b =
+    cond-by (Declines held) (eqb (length held) 0) _ _
+    (λ t. cond-by (Declines held) (eqb b soh) _ _ (λ _. tt) (λ _. (refl, inl (refl, nothing-is held t))))
+    (λ _. grown-declines held (held ++ (b ∷ [])))
+
+-- ---- the board's refusals
+
+-- what a refused call leaves: all as it was, or, with 2 to 8, all but the bytes held, of which there are none
+pub data Refused (s : State₁) (lent : List ℕ) (n : ℕ) (o : Left₁) : Type 0 where
+  unchanged : o ≡ refuse thisBoard n s lent → Refused s lent n o
+  emptied : 2 ≤ n → n ≤ 8 → o ≡ answers (refused n) (s .ident) [] lent → Refused s lent n o
+
+module _ (s : State₁) (m lent : List ℕ) (n : ℕ) (q : s .erase ≡ idle) where
+  effect-refused : (to : Addressee) (p : List ℕ) (x : Effect) → effect (s .ident) m (requestIn (getD p 4 0) (textOf p)) ≡ x
+      → onPacketTo to (s .ident) m p lent .answer ≡ refused n → Refused s lent n (onPacketTo to (s .ident) m p lent)
+  unfolding onPacketTo toOwn toAll
+  effect-refused own p (replies r es) is e = let z : _≡_ {A = ℕ} 0 1 = cc in absurd (omega arith)
+  effect-refused own p begins is e = let z : _≡_ {A = ℕ} 0 1 = cc in absurd (omega arith)
+  effect-refused all p (replies r es) is e = let z : _≡_ {A = ℕ} 0 1 = cc in absurd (omega arith)
+  effect-refused all p begins is e = let z : _≡_ {A = ℕ} 0 1 = cc in absurd (omega arith)
+  effect-refused another p x is e =
+      let z : 8 ≡ n = cc in
+      emptied (omega arith) (omega arith) (ap (λ (k : ℕ). answers (refused k) (s .ident) [] lent) z)
+
+  receipt-refused : (a : receive.Answer) (held : List ℕ) → Declined (s .held) a held
+      → onReceipt a held (s .ident) m lent .answer ≡ refused n → Refused s lent n (onReceipt a held (s .ident) m lent)
+  unfolding onReceipt onPacket refuse
+  receipt-refused receive.waiting held d e = let z : _≡_ {A = ℕ} 0 1 = cc in absurd (omega arith)
+  receipt-refused (receive.refused k) held (l, inl f) e =
+      let z : k ≡ n = cc in
+      let w : held ≡ s .held = l ∙ sym (f .1) in
+      unchanged (λ j. record { answer = refused (z j); state = record { ident = s .ident; held = w j; erase = sym q j }; stores = []; buffer = lent })
+  receipt-refused (receive.refused k) held (l, inr f) e =
+      let z : k ≡ n = cc in
+      emptied (omega arith) (omega arith) (λ j. answers (refused (z j)) (s .ident) (l j) lent)
+  receipt-refused (receive.whole p) held d e = effect-refused (addressee (s .ident) (getD p 2 0)) p _ refl e
+
+  done-refused : (c : Call) → board.does c s m lent .answer ≡ refused n → Refused s lent n (board.does c s m lent)
+  unfolding board.does
+  done-refused (byte b) e = receipt-refused _ _ (accept-declines (s .held) b) e
+  done-refused gap e = let z : _≡_ {A = ℕ} 0 1 = cc in absurd (omega arith)
+
+pub call-refused : (c : Call) (s : State₁) (m lent : List ℕ) (n : ℕ) → onCall thisBoard c s m lent .answer ≡ refused n
+    → Refused s lent n (onCall thisBoard c s m lent)
+unfolding refuse
+call-refused c s m lent n a = go (called thisBoard c s m lent)
+  where
+    go : Called thisBoard c s m lent (onCall thisBoard c s m lent) → Refused s lent n (onCall thisBoard c s m lent)
+    go (refuses k e) = let z : k ≡ n = cc in unchanged (e ∙ ap (λ (k : ℕ). refuse thisBoard k s lent) z)
+    go (does q h e) = rw e (done-refused s m lent n q c (rw e at a))
+
+-- a step that is refused changes nothing
+last-not-refused : (i : Identity) (owed : Bool) (n : ℕ) → lastAnswer i owed ≡ refused n → ⊥
+last-not-refused i true n e = let z : _≡_ {A = ℕ} 0 1 = cc in omega arith
+last-not-refused i false n e = let z : _≡_ {A = ℕ} 0 1 = cc in omega arith
+
+clear-not-refused : (p : ℕ) (owed : Bool) (s : State₁) (lent : List ℕ) (n : ℕ) → stepOn thisBoard (pending p owed) s lent .answer ≡ refused n → ⊥
+clear-not-refused p owed s lent n =
+    step-clears-or-ends thisBoard (λ o. o .answer ≡ refused n → ⊥) p owed s lent
+    (λ t e. let z : _≡_ {A = ℕ} 0 1 = cc in omega arith) (λ t e. last-not-refused (s .ident) owed n e)
+
+pub step-refused : (s : State₁) (m lent : List ℕ) (n : ℕ) → onStep thisBoard s m lent .answer ≡ refused n → onStep thisBoard s m lent ≡ refuse thisBoard n s lent
+unfolding refuse
+step-refused s m lent n a = go (stepped thisBoard s m lent)
+  where
+    go : Stepped thisBoard s m lent (onStep thisBoard s m lent) → onStep thisBoard s m lent ≡ refuse thisBoard n s lent
+    go (refuses k e) = let z : k ≡ n = cc in e ∙ ap (λ (k : ℕ). refuse thisBoard k s lent) z
+    go (clears p owed q h e) = absurd (clear-not-refused p owed s lent n (rw e at a))

@@ -1,0 +1,57 @@
+-- An identity out of range is refused with 12 by every start and every call, whatever the store: a serial number or a model of 17 bytes or
+-- more, and the ID 0 that a refused start gives.
+use Prim.Native.Nat.{ℕ, _≤_}
+use mathlib.Core.Bool.{Bool, true, false, cond, _&&_, and-false}
+use mathlib.Core.List.{List}
+use mathlib.Core.Logic.{_⊎_, inl, inr}
+use mathlib.Core.Path.{_≡_, refl}
+use native.Mathlib.Omega.{arith}
+use borrow.Author.Tests.{eq-eqb, ne-eqb, lt-leb}
+use lib.Dec.{eqb}
+use lib.ListN.{length}
+use Rattle.erase.specs.Board.{Identity, noBoard}
+use Rattle.erase.specs.Calls.{mark, isShort, refuse, isSound, onCall, onStep, onStart}
+use Rattle.store.specs.Layout.{unusedStore}
+use Rattle.board.specs.Calls.{Call, State₁, isIdentity, lends, startOther, thisBoard}
+
+-- ---- identities out of range
+
+pub long-serial : (i : Identity) → 17 ≤ length (i .serial) → isIdentity i ≡ false
+unfolding isIdentity
+long-serial i h = rw (lt-leb (length (i .serial)) 16 h, and-false)
+
+pub long-model : (i : Identity) → 17 ≤ length (i .model) → isIdentity i ≡ false
+unfolding isIdentity
+long-model i h = rw (lt-leb (length (i .model)) 16 h, and-false)
+
+pub no-id : (i : Identity) → i .id ≡ 0 → isIdentity i ≡ false
+unfolding isIdentity
+no-id i e = rw (lt-leb 1 (i .id) (omega arith))
+
+-- ---- what they get
+
+unnamed-unsound : (s : State₁) (m : List ℕ) → isIdentity (s .ident) ≡ false → isSound thisBoard s m ≡ false
+unfolding isSound
+unnamed-unsound s m e = rw e
+
+refusals : (t : Bool) (s : State₁) (lent : List ℕ) → cond t (refuse thisBoard 10 s lent) (refuse thisBoard 12 s lent) ≡ refuse thisBoard (cond t 10 12) s lent
+refusals true s lent = refl
+refusals false s lent = refl
+
+pub unnamed-call-refused : (c : Call) (s : State₁) (m lent : List ℕ) → isIdentity (s .ident) ≡ false
+    → onCall thisBoard c s m lent ≡ refuse thisBoard (cond (lends c && isShort lent) 10 12) s lent
+unfolding onCall
+unnamed-call-refused c s m lent e = rw (unnamed-unsound s m e) (refusals (lends c && isShort lent) s lent)
+
+pub unnamed-step-refused : (s : State₁) (m lent : List ℕ) → isIdentity (s .ident) ≡ false
+    → onStep thisBoard s m lent ≡ refuse thisBoard (cond (isShort lent) 10 12) s lent
+unfolding onStep
+unnamed-step-refused s m lent e = rw (unnamed-unsound s m e) (refusals (isShort lent) s lent)
+
+pub unnamed-start-refused : (i : Identity) (m : List ℕ) → length m ≡ 128 → (mark m ≡ 0) ⊎ (mark m ≡ 0xE7) → isIdentity i ≡ false
+    → onStart thisBoard i m ≡ noBoard 12
+unfolding onStart startOther mark unusedStore
+unnamed-start-refused i m size (inl k) e =
+    let z : eqb (mark m) 0xE7 ≡ false = ne-eqb (mark m) 0xE7 (λ q. omega arith) in
+    rw (eq-eqb (length m) 128 size, z, eq-eqb (mark m) 0 k, e)
+unnamed-start-refused i m size (inr k) e = rw (eq-eqb (length m) 128 size, eq-eqb (mark m) 0xE7 k, e)

@@ -1,0 +1,116 @@
+-- What holds of every call and step on this board, sound or not: soundness stays, a refusal stores and sends nothing, few bytes are stored,
+-- a reply's length is its packet's, and an accepted Set moves its value.
+use mathlib.Core.Path.{_≡_, refl, subst}
+use mathlib.Core.Bool.{Bool, true, false}
+use mathlib.Core.List.{List, []}
+use mathlib.Core.Logic.{_⊎_, ⊎-elim}
+use Prim.Native.Nat.{ℕ, _≤_}
+use native.Mathlib.Omega.{arith}
+use lib.ListN.{length}
+use Rattle.plan.specs.Stores.{Entry, applied}
+use Rattle.messages.specs.Message.Request.{getParameter, setParameter}
+use Rattle.messages.specs.Message.Reply.{getReply, setReply}
+use Rattle.store.specs.Layout.{fieldStores}
+use Rattle.store.specs.Settings.{rowOf, fieldOf, accepts, kept}
+use Rattle.store.specs.Contents.{isOn}
+use Rattle.store.specs.declared.settings.Setting.{Setting}
+use Rattle.store.proofs.StoreLaws.{field-applied}
+use Rattle.store.proofs.SettingLaws.{setting-field, setting-listed, settled, set-shows}
+use Rattle.erase.specs.Board.{Identity, Answer, refused, reply, pending}
+use Rattle.erase.specs.Calls.{isSound, refuse, onCall, onStep}
+use Rattle.erase.proofs.Laws.{Kept}
+use Rattle.erase.proofs.Kept.{call-keeps, step-keeps}
+use Rattle.erase.proofs.Steps.{step-stores-one, pending-call-stores-none}
+use Rattle.actions.specs.Act.{replies, says, isErase, getEffect, setEffect, effectOf}
+use Rattle.board.specs.Calls.{Call, State₁, Left₁, answers, thisBoard}
+use Rattle.board.proofs.BoardLaws.{board-laws}
+use Rattle.board.proofs.RefusalLaws.{Refused, unchanged, emptied, call-refused, step-refused}
+use Rattle.board.proofs.Bounds.{Replied, Sends, call-bounded, step-bounded}
+
+-- ---- sound boards stay sound
+
+pub call-keeps-sound : (c : Call) (s : State₁) (m lent : List ℕ) → isSound thisBoard s m ≡ true → Kept thisBoard m (onCall thisBoard c s m lent)
+call-keeps-sound = call-keeps board-laws
+
+pub step-keeps-sound : (s : State₁) (m lent : List ℕ) → isSound thisBoard s m ≡ true → Kept thisBoard m (onStep thisBoard s m lent)
+step-keeps-sound = step-keeps board-laws
+
+-- ---- refusals
+
+-- nothing stored, the lent buffer as it was
+pub record Untouched (lent : List ℕ) (o : Left₁) : Type 0 where
+  pub stores : o .stores ≡ []
+  pub buffer : o .buffer ≡ lent
+
+-- with 1 and with 9 to 13 the board too is as it was
+pub refusals-change-nothing : (c : Call) (s : State₁) (m lent : List ℕ) (n : ℕ) → onCall thisBoard c s m lent .answer ≡ refused n → (n ≡ 1) ⊎ (9 ≤ n)
+    → onCall thisBoard c s m lent ≡ refuse thisBoard n s lent
+refusals-change-nothing c s m lent n a h = go (call-refused c s m lent n a)
+  where
+    go : Refused s lent n (onCall thisBoard c s m lent) → onCall thisBoard c s m lent ≡ refuse thisBoard n s lent
+    go (unchanged e) = e
+    go (emptied low high e) = absurd (⊎-elim (λ x. omega arith) (λ x. omega arith) h)
+
+-- with every number
+pub refusal-keeps : (c : Call) (s : State₁) (m lent : List ℕ) (n : ℕ) → onCall thisBoard c s m lent .answer ≡ refused n → Untouched lent (onCall thisBoard c s m lent)
+unfolding refuse
+refusal-keeps c s m lent n a = go (call-refused c s m lent n a)
+  where
+    go : Refused s lent n (onCall thisBoard c s m lent) → Untouched lent (onCall thisBoard c s m lent)
+    go (unchanged e) = rw e (record { stores = refl; buffer = refl })
+    go (emptied low high e) = rw e (record { stores = refl; buffer = refl })
+
+pub step-refusal-keeps : (s : State₁) (m lent : List ℕ) (n : ℕ) → onStep thisBoard s m lent .answer ≡ refused n → Untouched lent (onStep thisBoard s m lent)
+unfolding refuse
+step-refusal-keeps s m lent n a = rw (step-refused s m lent n a) (record { stores = refl; buffer = refl })
+
+-- ---- how much is stored
+
+-- the supply holds up for 40 stores
+pub stores-few : (c : Call) (s : State₁) (m lent : List ℕ) → length (onCall thisBoard c s m lent .stores) ≤ 40
+stores-few c s m lent = call-bounded c s m lent .ready .few
+
+pub pending-stores-none : (c : Call) (s : State₁) (m lent : List ℕ) (p : ℕ) (owed : Bool) → s .erase ≡ pending p owed → onCall thisBoard c s m lent .stores ≡ []
+pending-stores-none = pending-call-stores-none thisBoard
+
+pub step-stores-few : (s : State₁) (m lent : List ℕ) → length (onStep thisBoard s m lent .stores) ≤ 1
+step-stores-few = step-stores-one thisBoard
+
+-- ---- a reply's length is not invented: it is that of a packet of L + 9 bytes at the start of the lent buffer
+
+pub call-reply : (c : Call) (s : State₁) (m lent : List ℕ) (n : ℕ) → onCall thisBoard c s m lent .answer ≡ reply n
+    → Replied lent n (onCall thisBoard c s m lent .buffer)
+call-reply c s m lent n e = subst (λ (a : Answer ℕ). Sends lent a (onCall thisBoard c s m lent .buffer)) e (call-bounded c s m lent .sends)
+
+pub step-reply : (s : State₁) (m lent : List ℕ) (n : ℕ) → onStep thisBoard s m lent .answer ≡ reply n → Replied lent n (onStep thisBoard s m lent .buffer)
+step-reply s m lent n e = subst (λ (a : Answer ℕ). Sends lent a (onStep thisBoard s m lent .buffer)) e (step-bounded s m lent .sends)
+
+-- ---- a Set moves its value
+
+-- no setting is at F0/01
+setting-not-erase : (s : Setting) → isErase (rowOf s .page) (rowOf s .code) ≡ false
+setting-not-erase Setting.Backlight = refl
+setting-not-erase Setting.Input = refl
+setting-not-erase Setting.Balance = refl
+setting-not-erase Setting.PipH = refl
+setting-not-erase Setting.PipV = refl
+setting-not-erase Setting.AmbientLow = refl
+setting-not-erase Setting.AmbientHigh = refl
+setting-not-erase Setting.Tile = refl
+
+-- what a Set of a setting replies and stores, and what a Get shows after it
+pub record Moves (i : Identity) (m : List ℕ) (s : Setting) (v : ℕ) : Type 0 where
+  pub stores : List Entry
+  pub answers : effectOf i m (setParameter (rowOf s .page) (rowOf s .code) v)
+      ≡ replies (setReply 0 (rowOf s .page) (rowOf s .code) 0 (rowOf s .largest) v) stores
+  pub shows : effectOf i (applied stores m) (getParameter (rowOf s .page) (rowOf s .code))
+      ≡ says (getReply 0 (rowOf s .page) (rowOf s .code) 0 (rowOf s .largest) (settled s v))
+
+pub set-moves-value : (i : Identity) (m : List ℕ) (s : Setting) (v : ℕ) → 12 ≤ length m → isOn m ≡ true → accepts s v ≡ true → Moves i m s v
+unfolding effectOf getEffect setEffect
+set-moves-value i m s v l on h =
+    record {
+      stores = fieldStores m (fieldOf s) (kept s v);
+      answers = rw (setting-not-erase s, setting-listed s, on, h);
+      shows = rw (setting-not-erase s, setting-listed s, field-applied m (fieldOf s) (kept s v) (setting-field s) l, set-shows m s v l h);
+    }

@@ -1,0 +1,24 @@
+-- Each test of the code is one of the definition's.
+use borrow.Author.Needs.{needs}
+use Rattle.wire.proofs.Tests.{tests}
+use Rattle.board.specs.Calls.{addressee}
+use Rattle.board.proofs.packet.addressee_of.Statement.{statement}
+use Rattle.board.proofs.packet.addressee_of.Tie as tie
+
+add-if1 : tie.Need-add-if1
+add-if1 c = search needs
+
+returns : tie.Need-returns
+unfolding addressee
+returns c serial model = search tests
+
+returns-2 : tie.Need-returns-2
+unfolding addressee
+returns-2 c serial model = search tests
+
+returns-3 : tie.Need-returns-3
+unfolding addressee
+returns-3 c serial model = search tests
+
+pub addressee-of-spec : {M : Type 1} → statement M
+addressee-of-spec = tie.close (tie.spec add-if1 returns returns-2 returns-3)

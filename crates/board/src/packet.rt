@@ -1,0 +1,148 @@
+// What a good packet does to the store, and the reply that it gets.
+ghost use mathlib.Core.List.{List};
+ghost use mathlib.Core.Path.{_≡_};
+ghost use Prim.Native.Nat.{ℕ, _≤_};
+ghost use lib.ListN.{length, getD, set, take, replicate};
+ghost use Rattle.wire.specs.Judge.{Whole};
+ghost use Rattle.wire.specs.Packet.{over, textOf};
+ghost use Rattle.messages.specs.View.{replyOf, replyCount};
+ghost use Rattle.messages.specs.Read.{requestIn};
+ghost use Rattle.parser.specs.View.{parsed};
+ghost use Rattle.actions.specs.Act.{effect};
+ghost use Rattle.board.specs.Calls.{replyWith, addressee, onPacket, toOwn, toAll};
+ghost use Rattle.actions.specs.View.{identityOf};
+ghost use Rattle.board.specs.View.{addresseeOf, acted, result, Addressed};
+use actions::Effect;
+use messages::message::Reply;
+use messages::write;
+use parser::parse;
+use parser::parse::ParsedRequest;
+use plan::Plan;
+use store::contents::Text;
+use wire::packet;
+
+// Whom a destination addresses.
+pub enum Addressee {
+    Own,
+    All,
+    Another,
+}
+
+// What a packet brought about.
+pub enum Acted {
+    Refused,
+    Silent,
+    Begun(bool),
+    Reply(usize),
+}
+
+// A good packet: the first n bytes.
+pub fn on_packet(
+    id: u8,
+    serial: Text,
+    model: Text,
+    bytes: &[u8],
+    n: usize,
+    store: &mut [u8],
+    reply: &mut [u8],
+) -> Acted
+    requires { ⌜ (n ≤ length (now bytes)) × Whole (take n (now bytes)) ⌝ }
+    requires { ⌜ Addressed id serial model (now store) (now reply) ⌝ }
+    ensures { λ r. ⌜ acted r (identityOf id serial model) (now (store .exit)) (now (reply .exit)) ≡ result (onPacket (identityOf id serial model) (now (store .entry)) (take n (now (bytes .entry))) (now (reply .entry))) (now (store .entry)) ⌝ }
+{
+    let packet = &bytes[..n];
+    let asked = asked_in(packet);
+    match addressee_of(id, packet[2]) {
+        Addressee::Own => {
+            return for_own(id, serial, model, asked, store, reply);
+        }
+        Addressee::All => {
+            return for_all(id, serial, model, asked, store);
+        }
+        Addressee::Another => {
+            return Acted::Refused;
+        }
+    }
+}
+
+// The request in a packet.
+fn asked_in(packet: &[u8]) -> ParsedRequest
+    requires { ⌜ Whole (now packet) ⌝ }
+    ensures { λ r. ⌜ parsed r ≡ requestIn (getD (now (packet .entry)) 4 0) (textOf (now (packet .entry))) ⌝ }
+{
+    let end = packet.len() - 3;
+    parse::parse_request(packet[4], &packet[8..end])
+}
+
+fn addressee_of(id: u8, dest: u8) -> Addressee
+    requires { ⌜ id ≤ 8 ⌝ }
+    ensures { λ r. ⌜ ((serial model : Text) → addresseeOf r ≡ addressee (identityOf id serial model) dest) ⌝ }
+{
+    if dest == 0x40 + id {
+        return Addressee::Own;
+    }
+    if dest == 0x2A {
+        return Addressee::All;
+    }
+    Addressee::Another
+}
+
+// For this board: stored and replied, or an erase begun that owes the reply.
+fn for_own(
+    id: u8,
+    serial: Text,
+    model: Text,
+    asked: ParsedRequest,
+    store: &mut [u8],
+    reply: &mut [u8],
+) -> Acted
+    requires { ⌜ Addressed id serial model (now store) (now reply) ⌝ }
+    ensures { λ r. ⌜ acted r (identityOf id serial model) (now (store .exit)) (now (reply .exit)) ≡ result (toOwn (identityOf id serial model) (effect (identityOf id serial model) (now (store .entry)) (parsed asked)) (now (reply .entry))) (now (store .entry)) ⌝ }
+{
+    let decision = actions::decide(id, serial, model, asked, store);
+    let effect = decision.effect;
+    let Effect::Replies(answer) = effect else {
+        begin(store);
+        return Acted::Begun(true);
+    };
+    let plan = decision.plan;
+    let bytes = decision.bytes;
+    plan::commit(plan, store);
+    Acted::Reply(send(id, answer, bytes, reply))
+}
+
+// For all boards: stored in silence, or an erase begun that owes nothing.
+fn for_all(id: u8, serial: Text, model: Text, asked: ParsedRequest, store: &mut [u8]) -> Acted
+    requires { ⌜ Addressed id serial model (now store) (replicate 64 0) ⌝ }
+    ensures { λ r. ⌜ ((lent : List ℕ) → acted r (identityOf id serial model) (now (store .exit)) lent ≡ result (toAll (identityOf id serial model) (effect (identityOf id serial model) (now (store .entry)) (parsed asked)) lent) (now (store .entry))) ⌝ }
+{
+    let decision = actions::decide(id, serial, model, asked, store);
+    let effect = decision.effect;
+    let Effect::Replies(_) = effect else {
+        begin(store);
+        return Acted::Begun(false);
+    };
+    let plan = decision.plan;
+    plan::commit(plan, store);
+    Acted::Silent
+}
+
+// E7h in byte 0.
+fn begin(store: &mut [u8])
+    requires { ⌜ length (now store) ≡ 128 ⌝ }
+    ensures { λ _. ⌜ now (store .exit) ≡ set (now (store .entry)) 0 0xE7 ⌝ }
+{
+    let plan = Plan::empty().with(0, 0xE7);
+    plan::commit(plan, store);
+}
+
+// Writes the packet of a reply from the board with an ID; its length.
+pub fn send(id: u8, answer: Reply, bytes: [u8; 16], out: &mut [u8]) -> usize
+    requires { ⌜ (id ≤ 8) × (replyCount answer ≤ 16) × (64 ≤ length (now out)) ⌝ }
+    ensures { λ r. ⌜ (r ≡ length (replyWith id (replyOf answer bytes))) × (now (out .exit) ≡ over (replyWith id (replyOf answer bytes)) (now (out .entry))) ⌝ }
+{
+    let mut text = [0u8; 62];
+    let written = write::reply_text(answer, &bytes, &mut text);
+    let n = written.length;
+    packet::put_packet(out, 0x30, 0x40 + id, written.kind, &text[..n])
+}
