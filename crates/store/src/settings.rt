@@ -1,7 +1,8 @@
 // The settings: a type for each, with its fixed numbers, and what any of them has in common.
 ghost use mathlib.Core.Path.{_≡_};
-ghost use mathlib.Core.Bool.{true};
+ghost use mathlib.Core.Bool.{true, _&&_};
 ghost use Prim.Native.Nat.{_≤_};
+ghost use lib.Dec.{eqb};
 ghost use lib.ListN.{length};
 ghost use Rattle.plan.specs.Plans.{storesOf};
 ghost use Rattle.store.specs.Layout.{fieldStores};
@@ -41,45 +42,29 @@ impl Setting {
     pub fn at(page: u8, code: u8) -> Found
         ensures { λ r. ⌜ found r ≡ settingAt page code ⌝ }
     {
-        if page == Backlight::PAGE {
-            if code == Backlight::CODE {
-                return Found::Setting(Setting::Backlight);
-            }
+        if is_at(page, code, Backlight::PAGE, Backlight::CODE) {
+            return Found::Setting(Setting::Backlight);
         }
-        if page == Input::PAGE {
-            if code == Input::CODE {
-                return Found::Setting(Setting::Input);
-            }
+        if is_at(page, code, Input::PAGE, Input::CODE) {
+            return Found::Setting(Setting::Input);
         }
-        if page == Balance::PAGE {
-            if code == Balance::CODE {
-                return Found::Setting(Setting::Balance);
-            }
+        if is_at(page, code, Balance::PAGE, Balance::CODE) {
+            return Found::Setting(Setting::Balance);
         }
-        if page == PipH::PAGE {
-            if code == PipH::CODE {
-                return Found::Setting(Setting::PipH);
-            }
+        if is_at(page, code, PipH::PAGE, PipH::CODE) {
+            return Found::Setting(Setting::PipH);
         }
-        if page == PipV::PAGE {
-            if code == PipV::CODE {
-                return Found::Setting(Setting::PipV);
-            }
+        if is_at(page, code, PipV::PAGE, PipV::CODE) {
+            return Found::Setting(Setting::PipV);
         }
-        if page == AmbientLow::PAGE {
-            if code == AmbientLow::CODE {
-                return Found::Setting(Setting::AmbientLow);
-            }
+        if is_at(page, code, AmbientLow::PAGE, AmbientLow::CODE) {
+            return Found::Setting(Setting::AmbientLow);
         }
-        if page == AmbientHigh::PAGE {
-            if code == AmbientHigh::CODE {
-                return Found::Setting(Setting::AmbientHigh);
-            }
+        if is_at(page, code, AmbientHigh::PAGE, AmbientHigh::CODE) {
+            return Found::Setting(Setting::AmbientHigh);
         }
-        if page == Tile::PAGE {
-            if code == Tile::CODE {
-                return Found::Setting(Setting::Tile);
-            }
+        if is_at(page, code, Tile::PAGE, Tile::CODE) {
+            return Found::Setting(Setting::Tile);
         }
         Found::Unlisted
     }
@@ -156,6 +141,13 @@ impl Setting {
         let row = self.row();
         fields::field_stores(store, row.at, row.width, self.kept(v))
     }
+}
+
+// Whether a page and a code are those of a row.
+fn is_at(page: u8, code: u8, row_page: u8, row_code: u8) -> bool
+    ensures { λ r. ⌜ r ≡ (eqb page «row_page» && eqb code «row_code») ⌝ }
+{
+    (page == row_page) & (code == row_code)
 }
 
 pub struct Backlight;

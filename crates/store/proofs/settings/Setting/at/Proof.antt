@@ -1,94 +1,88 @@
--- Each pair of tests that did not return says that one of a row's page and code is not the one asked for.
-use borrow.Author.Tests.{ne-eqb}
-use mathlib.Core.Bool.{false, and-false}
-use mathlib.Core.Logic.{_⊎_, ⊎-elim}
-use mathlib.Core.Path.{_≡_}
-use Prim.Native.Nat.{ℕ}
-use lib.Dec.{eqb}
-use Rattle.wire.proofs.Tests.{tests}
-use Rattle.store.specs.declared.settings.Setting.{Setting}
-use Rattle.store.specs.Settings.{rowOf, isAt, settingAt}
+-- The first row whose page and code these are is the setting; each test on the way is one of the definition's.
+use borrow.Author.Needs.{needs}
+use mathlib.Core.Path.{sym, _∙_}
+use Rattle.store.specs.Settings.{settingAt}
 use Rattle.store.proofs.settings.Setting.at.Statement.{statement}
 use Rattle.store.proofs.settings.Setting.at.Tie as tie
 
-elsewhere : (page code : ℕ) (s : Setting) {A B : Type 0} → (A → code ≡ rowOf s .code → ⊥) → (B → page ≡ rowOf s .page → ⊥) → A ⊎ B → isAt page code s ≡ false
-elsewhere page code s f g w =
-    ⊎-elim (λ a. rw (ne-eqb code (rowOf s .code) (f a)) (and-false (eqb page (rowOf s .page)))) (λ b. rw (ne-eqb page (rowOf s .page) (g b))) w
-
-not-backlight : (j : tie.Joined1) → isAt (j .before .args .page) (j .before .args .code) Setting.Backlight ≡ false
-not-backlight j = elsewhere _ _ Setting.Backlight (λ w. w .1 .left) (λ w. w .left) (j .if1 .came)
-
-not-input : (j : tie.Joined3) → isAt (j .before .before .args .page) (j .before .before .args .code) Setting.Input ≡ false
-not-input j = elsewhere _ _ Setting.Input (λ w. w .1 .left) (λ w. w .left) (j .if3 .came)
-
-not-balance : (j : tie.Joined5) → isAt (j .before .before .before .args .page) (j .before .before .before .args .code) Setting.Balance ≡ false
-not-balance j = elsewhere _ _ Setting.Balance (λ w. w .1 .left) (λ w. w .left) (j .if5 .came)
-
-not-piph : (j : tie.Joined7) → isAt (j .before .before .before .before .args .page) (j .before .before .before .before .args .code) Setting.PipH ≡ false
-not-piph j = elsewhere _ _ Setting.PipH (λ w. w .1 .left) (λ w. w .left) (j .if7 .came)
-
-not-pipv : (j : tie.Joined9) → isAt (j .before .before .before .before .before .args .page) (j .before .before .before .before .before .args .code) Setting.PipV ≡ false
-not-pipv j = elsewhere _ _ Setting.PipV (λ w. w .1 .left) (λ w. w .left) (j .if9 .came)
-
-not-ambientlow : (j : tie.Joined11) → isAt (j .before .before .before .before .before .before .args .page) (j .before .before .before .before .before .before .args .code) Setting.AmbientLow ≡ false
-not-ambientlow j = elsewhere _ _ Setting.AmbientLow (λ w. w .1 .left) (λ w. w .left) (j .if11 .came)
-
-not-ambienthigh : (j : tie.Joined13) → isAt (j .before .before .before .before .before .before .before .args .page) (j .before .before .before .before .before .before .before .args .code) Setting.AmbientHigh ≡ false
-not-ambienthigh j = elsewhere _ _ Setting.AmbientHigh (λ w. w .1 .left) (λ w. w .left) (j .if13 .came)
-
-ruleset passed = (not-backlight, not-input, not-balance, not-piph, not-pipv, not-ambientlow, not-ambienthigh)
+is-at-requires : tie.Need-is-at-requires
+is-at-requires c κs = search needs
 
 returns : tie.Need-returns
 unfolding settingAt
-returns c = search tests
+returns c = rw (sym (c .before .is-at .ensures) ∙ c .if1 .taken)
+
+is-at-requires-2 : tie.Need-is-at-requires-2
+is-at-requires-2 c κs = search needs
 
 returns-2 : tie.Need-returns-2
 unfolding settingAt
-returns-2 c = simp passed (search tests)
+returns-2 c = rw (sym (c .before .before .before .is-at .ensures) ∙ c .before .before .if1 .left, sym (c .before .is-at2 .ensures) ∙ c .if2 .taken)
+
+is-at-requires-3 : tie.Need-is-at-requires-3
+is-at-requires-3 c κs = search needs
 
 returns-3 : tie.Need-returns-3
 unfolding settingAt
-returns-3 c = simp passed (search tests)
+returns-3 c = rw (sym (c .before .before .before .before .before .is-at .ensures) ∙ c .before .before .before .before .if1 .left, sym (c .before .before .before .is-at2 .ensures) ∙ c .before .before .if2 .left, sym (c .before .is-at3 .ensures) ∙ c .if3 .taken)
+
+is-at-requires-4 : tie.Need-is-at-requires-4
+is-at-requires-4 c κs = search needs
 
 returns-4 : tie.Need-returns-4
 unfolding settingAt
-returns-4 c = simp passed (search tests)
+returns-4 c = rw (sym (c .before .before .before .before .before .before .before .is-at .ensures) ∙ c .before .before .before .before .before .before .if1 .left, sym (c .before .before .before .before .before .is-at2 .ensures) ∙ c .before .before .before .before .if2 .left, sym (c .before .before .before .is-at3 .ensures) ∙ c .before .before .if3 .left, sym (c .before .is-at4 .ensures) ∙ c .if4 .taken)
+
+is-at-requires-5 : tie.Need-is-at-requires-5
+is-at-requires-5 c κs = search needs
 
 returns-5 : tie.Need-returns-5
 unfolding settingAt
-returns-5 c = simp passed (search tests)
+returns-5 c = rw (sym (c .before .before .before .before .before .before .before .before .before .is-at .ensures) ∙ c .before .before .before .before .before .before .before .before .if1 .left, sym (c .before .before .before .before .before .before .before .is-at2 .ensures) ∙ c .before .before .before .before .before .before .if2 .left, sym (c .before .before .before .before .before .is-at3 .ensures) ∙ c .before .before .before .before .if3 .left, sym (c .before .before .before .is-at4 .ensures) ∙ c .before .before .if4 .left, sym (c .before .is-at5 .ensures) ∙ c .if5 .taken)
+
+is-at-requires-6 : tie.Need-is-at-requires-6
+is-at-requires-6 c κs = search needs
 
 returns-6 : tie.Need-returns-6
 unfolding settingAt
-returns-6 c = simp passed (search tests)
+returns-6 c = rw (sym (c .before .before .before .before .before .before .before .before .before .before .before .is-at .ensures) ∙ c .before .before .before .before .before .before .before .before .before .before .if1 .left, sym (c .before .before .before .before .before .before .before .before .before .is-at2 .ensures) ∙ c .before .before .before .before .before .before .before .before .if2 .left, sym (c .before .before .before .before .before .before .before .is-at3 .ensures) ∙ c .before .before .before .before .before .before .if3 .left, sym (c .before .before .before .before .before .is-at4 .ensures) ∙ c .before .before .before .before .if4 .left, sym (c .before .before .before .is-at5 .ensures) ∙ c .before .before .if5 .left, sym (c .before .is-at6 .ensures) ∙ c .if6 .taken)
+
+is-at-requires-7 : tie.Need-is-at-requires-7
+is-at-requires-7 c κs = search needs
 
 returns-7 : tie.Need-returns-7
 unfolding settingAt
-returns-7 c = simp passed (search tests)
+returns-7 c = rw (sym (c .before .before .before .before .before .before .before .before .before .before .before .before .before .is-at .ensures) ∙ c .before .before .before .before .before .before .before .before .before .before .before .before .if1 .left, sym (c .before .before .before .before .before .before .before .before .before .before .before .is-at2 .ensures) ∙ c .before .before .before .before .before .before .before .before .before .before .if2 .left, sym (c .before .before .before .before .before .before .before .before .before .is-at3 .ensures) ∙ c .before .before .before .before .before .before .before .before .if3 .left, sym (c .before .before .before .before .before .before .before .is-at4 .ensures) ∙ c .before .before .before .before .before .before .if4 .left, sym (c .before .before .before .before .before .is-at5 .ensures) ∙ c .before .before .before .before .if5 .left, sym (c .before .before .before .is-at6 .ensures) ∙ c .before .before .if6 .left, sym (c .before .is-at7 .ensures) ∙ c .if7 .taken)
+
+is-at-requires-8 : tie.Need-is-at-requires-8
+is-at-requires-8 c κs = search needs
 
 returns-8 : tie.Need-returns-8
 unfolding settingAt
-returns-8 c = simp passed (search tests)
+returns-8 c = rw (sym (c .before .before .before .before .before .before .before .before .before .before .before .before .before .before .before .is-at .ensures) ∙ c .before .before .before .before .before .before .before .before .before .before .before .before .before .before .if1 .left, sym (c .before .before .before .before .before .before .before .before .before .before .before .before .before .is-at2 .ensures) ∙ c .before .before .before .before .before .before .before .before .before .before .before .before .if2 .left, sym (c .before .before .before .before .before .before .before .before .before .before .before .is-at3 .ensures) ∙ c .before .before .before .before .before .before .before .before .before .before .if3 .left, sym (c .before .before .before .before .before .before .before .before .before .is-at4 .ensures) ∙ c .before .before .before .before .before .before .before .before .if4 .left, sym (c .before .before .before .before .before .before .before .is-at5 .ensures) ∙ c .before .before .before .before .before .before .if5 .left, sym (c .before .before .before .before .before .is-at6 .ensures) ∙ c .before .before .before .before .if6 .left, sym (c .before .before .before .is-at7 .ensures) ∙ c .before .before .if7 .left, sym (c .before .is-at8 .ensures) ∙ c .if8 .taken)
 
 returns-9 : tie.Need-returns-9
 unfolding settingAt
-returns-9 c = simp passed (search tests)
-
-returns-10 : tie.Need-returns-10
-unfolding settingAt
-returns-10 c = simp passed (search tests)
+returns-9 c = rw (sym (c .before .before .before .before .before .before .before .before .before .before .before .before .before .before .before .is-at .ensures) ∙ c .before .before .before .before .before .before .before .before .before .before .before .before .before .before .if1 .left, sym (c .before .before .before .before .before .before .before .before .before .before .before .before .before .is-at2 .ensures) ∙ c .before .before .before .before .before .before .before .before .before .before .before .before .if2 .left, sym (c .before .before .before .before .before .before .before .before .before .before .before .is-at3 .ensures) ∙ c .before .before .before .before .before .before .before .before .before .before .if3 .left, sym (c .before .before .before .before .before .before .before .before .before .is-at4 .ensures) ∙ c .before .before .before .before .before .before .before .before .if4 .left, sym (c .before .before .before .before .before .before .before .is-at5 .ensures) ∙ c .before .before .before .before .before .before .if5 .left, sym (c .before .before .before .before .before .is-at6 .ensures) ∙ c .before .before .before .before .if6 .left, sym (c .before .before .before .is-at7 .ensures) ∙ c .before .before .if7 .left, sym (c .before .is-at8 .ensures) ∙ c .if8 .left)
 
 pub at-spec : {M : Type 1} → statement M
 at-spec =
     tie.close
     (tie.spec
+    is-at-requires
     returns
+    is-at-requires-2
     returns-2
+    is-at-requires-3
     returns-3
+    is-at-requires-4
     returns-4
+    is-at-requires-5
     returns-5
+    is-at-requires-6
     returns-6
+    is-at-requires-7
     returns-7
+    is-at-requires-8
     returns-8
-    returns-9
-    returns-10)
+    returns-9)
