@@ -1,4 +1,5 @@
 -- Short buffer, unsound, no erase pending; then a byte is cleared or the erase ends.
+use native.Mathlib.Omega.{arith}
 use mathlib.Core.Path.{ap, sym, _∙_}
 use borrow.Author.Tests.{not-false}
 use borrow.Author.Needs.{needs}
@@ -45,13 +46,13 @@ returns-3 c = refused-whole _ _ Refusal.NoErasePending _ _ (c .refuses3 .ensures
 
 clears-requires : tie.Need-clears-requires
 clears-requires c κs = let e = erasing-told _ _ _ _ (ap eraseOf (c .before .before .before .erase .given .1)) (sym (c .before .before .before .before .before .before .is-sound .ensures) ∙ not-false _ (c .before .before .before .before .before .if2 .left)) in
-    (e .least, c .before .if3 .taken, e .size)
+    (e .least, omega (arith, c .before .if3 .taken), e .size)
 
 same-length-3 : tie.Need-same-length-3
 same-length-3 c = search needs
 
 returns-4 : tie.Need-returns-4
-returns-4 c = clears-whole (c .before .before .clears .result) (c .before .before .before .before .before .before .before .before .before .before .before .before .before .before .args .self) _ _ _ _ _ _ (step-sound _ _ _ _ (c .before .before .before .before .before .before .before .before .before .is-sound .ensures) (c .before .before .before .before .before .before .before .before .before .before .before .if1 .left) (c .before .before .before .before .before .before .before .before .if2 .left) _ (ap eraseOf (c .before .before .before .before .before .before .erase .given .1))) (c .before .before .before .before .if3 .taken) (c .before .before .clears .ensures)
+returns-4 c = clears-whole (c .before .before .clears .result) (c .before .before .before .before .before .before .before .before .before .before .before .before .before .before .args .self) _ _ _ _ _ _ (step-sound _ _ _ _ (c .before .before .before .before .before .before .before .before .before .is-sound .ensures) (c .before .before .before .before .before .before .before .before .before .before .before .if1 .left) (c .before .before .before .before .before .before .before .before .if2 .left) _ (ap eraseOf (c .before .before .before .before .before .before .erase .given .1))) (omega (arith, c .before .before .before .before .if3 .taken)) (c .before .before .clears .ensures)
 
 ends-requires : tie.Need-ends-requires
 ends-requires c κs = let e = erasing-told _ _ _ _ (ap eraseOf (c .before .before .before .before .erase .given .1)) (sym (c .before .before .before .before .before .before .before .is-sound .ensures) ∙ not-false _ (c .before .before .before .before .before .before .if2 .left)) in
@@ -64,7 +65,7 @@ same-length-5 : tie.Need-same-length-5
 same-length-5 c = search needs
 
 returns-5 : tie.Need-returns-5
-returns-5 c = ends-whole (c .before .before .before .before .ends .result) (c .before .before .before .before .before .before .before .before .before .before .before .before .before .before .before .before .before .args .self) _ _ _ _ _ _ (step-sound _ _ _ _ (c .before .before .before .before .before .before .before .before .before .before .before .before .is-sound .ensures) (c .before .before .before .before .before .before .before .before .before .before .before .before .before .before .if1 .left) (c .before .before .before .before .before .before .before .before .before .before .before .if2 .left) _ (ap eraseOf (c .before .before .before .before .before .before .before .before .before .erase .given .1))) (c .before .before .before .before .before .before .before .if3 .left) _ (c .before .before .before .before .ends .ensures)
+returns-5 c = ends-whole (c .before .before .before .before .ends .result) (c .before .before .before .before .before .before .before .before .before .before .before .before .before .before .before .before .before .args .self) _ _ _ _ _ _ (step-sound _ _ _ _ (c .before .before .before .before .before .before .before .before .before .before .before .before .is-sound .ensures) (c .before .before .before .before .before .before .before .before .before .before .before .before .before .before .if1 .left) (c .before .before .before .before .before .before .before .before .before .before .before .if2 .left) _ (ap eraseOf (c .before .before .before .before .before .before .before .before .before .erase .given .1))) (omega (arith, c .before .before .before .before .before .before .before .if3 .left)) _ (c .before .before .before .before .ends .ensures)
 
 pub step-spec : {M : Type 1} → statement M
 step-spec =
