@@ -1,0 +1,3 @@
+// The station: an encoder of requests and a reader of replies.
+pub mod encode;
+pub mod read;
