@@ -28,8 +28,8 @@ use Rattle.board.specs.Calls.{
   Call,
   byte,
   gap,
-  State₁,
-  Left₁,
+  BoardState,
+  BoardOutcome,
   holding,
   answers,
   isIdentity,
@@ -76,7 +76,7 @@ pub record Resting (i : Identity) (held m : List ℕ) : Type 0 where
   pub ranged : fieldsInRange m ≡ true
   pub proper : receive.isProperBeginning held ≡ true
 
-pub resting : (s : State₁) (m : List ℕ) → s .erase ≡ idle → isSound thisBoard s m ≡ true → Resting (s .ident) (s .held) m
+pub resting : (s : BoardState) (m : List ℕ) → s .erase ≡ idle → isSound thisBoard s m ≡ true → Resting (s .ident) (s .held) m
 unfolding isSound isSoundAs
 resting s m q h =
     let x = both (isIdentity (s .ident) && eqb (length m) 128) (isSoundAs thisBoard (s .erase) (s .held) m) h in
@@ -138,10 +138,10 @@ all-told i dest = cond-by (λ (a : Addressee). a ≡ all → eqb dest (addressOf
 -- ---- every call
 
 -- what holds of what a call leaves
-abbrev Acts : Call → State₁ → List ℕ → List ℕ → Left₁ → Type 0
+abbrev Acts : Call → BoardState → List ℕ → List ℕ → BoardOutcome → Type 0
 Acts c s m lent o = Settles thisBoard m o ⊎ Begins thisBoard c s lent o
 
-module _ (c : Call) (s : State₁) (m lent : List ℕ) (r : Resting (s .ident) (s .held) m) where
+module _ (c : Call) (s : BoardState) (m lent : List ℕ) (r : Resting (s .ident) (s .held) m) where
   settles : (a : Answer ℕ) (held : List ℕ) (es : List Entry) (buffer : List ℕ) → a ≢ begun → Resting (s .ident) held (applied es m)
       → Acts c s m lent (record { answer = a; state = holding (s .ident) held; stores = es; buffer = buffer })
   settles a held es buffer n h = inl (record { kept = resting-sound h; not-begun = n })
@@ -176,7 +176,7 @@ module _ (c : Call) (s : State₁) (m lent : List ℕ) (r : Resting (s .ident) (
   receipt-acts held (receive.whole p) h f =
       packet-acts p (addressee (s .ident) (getD p 2 0)) _ refl (λ e. sym (own-told _ _ e) ∙ f p refl) (λ e. sym (all-told _ _ e) ∙ f p refl)
 
-call-acts : (c : Call) (s : State₁) (m lent : List ℕ) → Resting (s .ident) (s .held) m → Acts c s m lent (does c s m lent)
+call-acts : (c : Call) (s : BoardState) (m lent : List ℕ) → Resting (s .ident) (s .held) m → Acts c s m lent (does c s m lent)
 unfolding does owes
 call-acts (byte b) s m lent r =
     let e = accept-proper (s .held) b (r .proper) in

@@ -21,8 +21,8 @@ use Rattle.board.specs.Calls.{
   Call,
   byte,
   gap,
-  State₁,
-  Left₁,
+  BoardState,
+  BoardOutcome,
   Addressee,
   own,
   all,
@@ -63,7 +63,7 @@ Sends lent ended buffer = buffer ≡ lent
 Sends lent (refused n) buffer = buffer ≡ lent
 
 -- entries that a plan and the store can take; a reply fills the start of the lent buffer, and every other answer leaves it
-pub record Bounded (lent : List ℕ) (o : Left₁) : Type 0 where
+pub record Bounded (lent : List ℕ) (o : BoardOutcome) : Type 0 where
   pub ready : Ready 128 (o .stores)
   pub sends : Sends lent (o .answer) (o .buffer)
 
@@ -79,7 +79,7 @@ reply-sent i r lent f =
 
 -- ---- a call
 
-module _ (s : State₁) (m lent : List ℕ) (r : Resting (s .ident) (s .held) m) where
+module _ (s : BoardState) (m lent : List ℕ) (r : Resting (s .ident) (s .held) m) where
   packet-bounded : (p : List ℕ) (to : Addressee) (x : Effect) → effect (s .ident) m (requestIn (getD p 4 0) (textOf p)) ≡ x
       → Bounded lent (onPacketTo to (s .ident) m p lent)
   unfolding onPacketTo toOwn toAll
@@ -105,11 +105,11 @@ module _ (s : State₁) (m lent : List ℕ) (r : Resting (s .ident) (s .held) m)
   done-bounded (byte b) = receipt-bounded _ _
   done-bounded gap = record { ready = no-stores; sends = refl }
 
-refusal-bounded : (n : ℕ) (s : State₁) (lent : List ℕ) → Bounded lent (refuse thisBoard n s lent)
+refusal-bounded : (n : ℕ) (s : BoardState) (lent : List ℕ) → Bounded lent (refuse thisBoard n s lent)
 unfolding refuse
 refusal-bounded n s lent = record { ready = no-stores; sends = refl }
 
-pub call-bounded : (c : Call) (s : State₁) (m lent : List ℕ) → Bounded lent (onCall thisBoard c s m lent)
+pub call-bounded : (c : Call) (s : BoardState) (m lent : List ℕ) → Bounded lent (onCall thisBoard c s m lent)
 call-bounded c s m lent = go (called thisBoard c s m lent)
   where
     go : Called thisBoard c s m lent (onCall thisBoard c s m lent) → Bounded lent (onCall thisBoard c s m lent)
@@ -123,13 +123,13 @@ unfolding eraseReply replyText parameterText
 last-sends i true lent = reply-sent i (setReply 0 0xF0 0x01 1 1 1) lent (omega arith)
 last-sends i false lent = refl
 
-clear-bounded : (p : ℕ) (owed : Bool) (s : State₁) (lent : List ℕ) → Bounded lent (stepOn thisBoard (pending p owed) s lent)
+clear-bounded : (p : ℕ) (owed : Bool) (s : BoardState) (lent : List ℕ) → Bounded lent (stepOn thisBoard (pending p owed) s lent)
 clear-bounded p owed s lent =
     step-clears-or-ends thisBoard (Bounded lent) p owed s lent
     (λ t. record { ready = one-store _ (leb-true p 127 t); sends = refl })
     (λ t. record { ready = one-store _ (omega arith); sends = last-sends (s .ident) owed lent })
 
-pub step-bounded : (s : State₁) (m lent : List ℕ) → Bounded lent (onStep thisBoard s m lent)
+pub step-bounded : (s : BoardState) (m lent : List ℕ) → Bounded lent (onStep thisBoard s m lent)
 step-bounded s m lent = go (stepped thisBoard s m lent)
   where
     go : Stepped thisBoard s m lent (onStep thisBoard s m lent) → Bounded lent (onStep thisBoard s m lent)

@@ -28,7 +28,7 @@ use Rattle.erase.specs.Board.{Identity, pending, idle}
 use Rattle.erase.specs.Calls.{mark, eraseMark, firstBytes, same, isShort, refuse, atRest, erasing, isSoundAs, isSound, callOn, onCall, stepOn, onStep, onStart}
 use Rattle.actions.specs.View.{seenText, identityOf}
 use Rattle.board.specs.Calls as calls
-use Rattle.board.specs.Calls.{Call, byte, gap, lends, State₁, Left₁, isIdentity, startOther, thisBoard}
+use Rattle.board.specs.Calls.{Call, byte, gap, lends, BoardState, BoardOutcome, isIdentity, startOther, thisBoard}
 use Rattle.board.specs.View.{eraseOf, stateOf, answerOf, Result, result, gave, started, Refusing, noBoard, identityFits, freshState, soundWith, leftState, acted, Accepting, Acting}
 use Rattle.board.specs.declared.packet.Acted.{Acted}
 use Rattle.board.specs.declared.board.Erase.{Erase}
@@ -74,11 +74,11 @@ module _ (b : Board) (m : List ℕ) (serial : length (b .serial .bytes) ≡ 16) 
 -- ---- a refusal that changes nothing
 
 module _ (d : Done) (b : Board) (r : Refusal) (m lent : List ℕ) (left : (d .board ≡ b) × (d .answer ≡ Answer.Refused r)) where
-  pub refused-whole : (o : Left₁) → o ≡ refuse thisBoard (numberOf r) (stateOf b) lent → gave d m lent ≡ result o m
+  pub refused-whole : (o : BoardOutcome) → o ≡ refuse thisBoard (numberOf r) (stateOf b) lent → gave d m lent ≡ result o m
   unfolding refuse
   refused-whole o e = rw (e, left .0, left .1)
 
-pub same-whole : (g : Result) (o p : Left₁) (m : List ℕ) → g ≡ result p m → o ≡ p → g ≡ result o m
+pub same-whole : (g : Result) (o p : BoardOutcome) (m : List ℕ) → g ≡ result p m → o ≡ p → g ≡ result o m
 same-whole g o p m h e = rw e h
 
 -- ---- a call in its order: the buffer, soundness, the erase
@@ -95,7 +95,7 @@ pub too-short : (lent : List ℕ) → length lent < 64 → isShort lent ≡ true
 unfolding isShort
 too-short lent h = lt-ltb (length lent) 64 h
 
-module _ (s : State₁) (m lent : List ℕ) where
+module _ (s : BoardState) (m lent : List ℕ) where
   pub byte-short : (x : ℕ) → length lent < 64 → onCall thisBoard (byte x) s m lent ≡ refuse thisBoard 10 s lent
   unfolding onCall
   byte-short x h = rw (too-short lent h)
@@ -129,7 +129,7 @@ pub record Erasing (i : Identity) (p : ℕ) (m : List ℕ) : Type 0 where
   pub least : 1 ≤ p
   pub most : p ≤ 128
 
-pub erasing-told : (s : State₁) (m : List ℕ) (p : ℕ) (owed : Bool) → s .erase ≡ pending p owed → isSound thisBoard s m ≡ true → Erasing (s .ident) p m
+pub erasing-told : (s : BoardState) (m : List ℕ) (p : ℕ) (owed : Bool) → s .erase ≡ pending p owed → isSound thisBoard s m ≡ true → Erasing (s .ident) p m
 unfolding isSound isSoundAs
 erasing-told s m p owed q h =
     let x = both (isIdentity (s .ident) && eqb (length m) 128) (isSoundAs thisBoard (s .erase) (s .held) m) h in
@@ -144,13 +144,13 @@ erasing-told s m p owed q h =
 -- ---- an erase step
 
 module _ (d : Done) (b : Board) (p : ℕ) (owed : Bool) (m m' lent : List ℕ) where
-  pub clears-whole : (o : Left₁) → o ≡ stepOn thisBoard (pending p owed) (stateOf b) lent → p ≤ 127
+  pub clears-whole : (o : BoardOutcome) → o ≡ stepOn thisBoard (pending p owed) (stateOf b) lent → p ≤ 127
       → (d .answer ≡ Answer.More) × (stateOf (d .board) ≡ leftState b (Erase.Pending (p + 1) owed)) × (m' ≡ set m p (getD unusedStore p 0))
       → gave d m' lent ≡ result o m
   unfolding stepOn erasing
   clears-whole o e h left = rw (e, le-leb p 127 h, left .0, left .1, left .2, add-one)
 
-  pub ends-whole : (o : Left₁) → o ≡ stepOn thisBoard (pending p owed) (stateOf b) lent → 127 < p → (lent' : List ℕ)
+  pub ends-whole : (o : BoardOutcome) → o ≡ stepOn thisBoard (pending p owed) (stateOf b) lent → 127 < p → (lent' : List ℕ)
       → (answerOf (d .answer) ≡ calls.lastAnswer (stateOf b .ident) owed) × (stateOf (d .board) ≡ leftState b Erase.Idle) × (m' ≡ set m 0 0)
       × (lent' ≡ calls.lastBuffer (stateOf b .ident) owed lent)
       → gave d m' lent' ≡ result o m
@@ -201,7 +201,7 @@ module _ (i : Identity) (m : List ℕ) where
 
 -- ---- a gap
 
-pub gap-whole : (b : Board) (m : List ℕ) → b .erase ≡ Erase.Idle → (o : Left₁) → o ≡ callOn thisBoard idle gap (stateOf b) m []
+pub gap-whole : (b : Board) (m : List ℕ) → b .erase ≡ Erase.Idle → (o : BoardOutcome) → o ≡ callOn thisBoard idle gap (stateOf b) m []
     → gave
     (record { board = record { id = b .id; serial = b .serial; model = b .model; held = b .held; len = 0; erase = b .erase }; answer = Answer.Waiting }) m []
     ≡ result o m

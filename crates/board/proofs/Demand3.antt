@@ -17,7 +17,7 @@ use Rattle.erase.specs.Lists.{call, step, cut, run, Acceptance, traceAfter}
 use Rattle.erase.proofs.Steps.{Called, refuses, does, called}
 use Rattle.erase.proofs.Kept.{unused-startable, rest-start}
 use Rattle.erase.proofs.Theorem.{erases}
-use Rattle.board.specs.Calls.{Call, byte, gap, State₁, isIdentity, lastAnswer, lastBuffer, owes, thisBoard}
+use Rattle.board.specs.Calls.{Call, byte, gap, BoardState, isIdentity, lastAnswer, lastBuffer, owes, thisBoard}
 use Rattle.board.specs.Demand3.{Events, unusedBytes, eraseReplyBytes, unusedTrace, expected, NoneSent, reaches, owed, Demand3}
 use Rattle.board.proofs.BoardLaws.{resting, board-laws}
 use Rattle.board.proofs.Numbers.{reply-bytes, unused-bytes}
@@ -66,7 +66,7 @@ accepted-named a = go (called thisBoard (a .given) (a .state) (a .store) (a .len
     go (refuses n e) = cc (a .accepts)
     go (does q h e) = resting (a .state) (a .store) q h .named
 
-owed-as : (c : Call) (s : State₁) (m lent : List ℕ) (e : onCall thisBoard c s m lent .answer ≡ begun)
+owed-as : (c : Call) (s : BoardState) (m lent : List ℕ) (e : onCall thisBoard c s m lent .answer ≡ begun)
     → owes c s ≡ owed (record { given = c; state = s; store = m; lent = lent; accepts = e })
 unfolding owes owed
 owed-as (byte b) s m lent e = refl

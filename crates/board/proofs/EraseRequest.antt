@@ -19,7 +19,7 @@ use Rattle.erase.specs.Board.{Identity, Answer, waiting, begun, idle}
 use Rattle.erase.specs.Calls.{isSound}
 use Rattle.erase.specs.Lists.{call, answered, seen, run}
 use Rattle.actions.specs.Act.{begins, effect, effectOf, setEffect}
-use Rattle.board.specs.Calls.{gap, does, holding, State₁, Addressee, own, all, addressee, toOwn, toAll, onPacketTo, onPacket, thisBoard}
+use Rattle.board.specs.Calls.{gap, does, holding, BoardState, Addressee, own, all, addressee, toOwn, toAll, onPacketTo, onPacket, thisBoard}
 use Rattle.board.specs.Demand3.{Events, answersIn, eraseRequest}
 use Rattle.board.proofs.BoardLaws.{named-told, Resting, resting, resting-sound, holds-others, nothing-proper}
 use Rattle.board.proofs.Numbers.{eraseText, erasePacket, request-bytes}
@@ -52,7 +52,7 @@ module _ (i : Identity) (m lent : List ℕ) (dest : ℕ) where
 
 -- ---- byte by byte
 
-gap-seen : (s : State₁) (m lent : List ℕ) (es : Events) → isSound thisBoard s m ≡ true → s .erase ≡ idle
+gap-seen : (s : BoardState) (m lent : List ℕ) (es : Events) → isSound thisBoard s m ≡ true → s .erase ≡ idle
     → run thisBoard (s .ident) s m (call gap lent ∷ es) ≡ answered waiting lent m ∷ run thisBoard (s .ident) (holding (s .ident) []) m es
 unfolding run seen does
 gap-seen s m lent es h q = rw (call-done gap s m lent refl h q)
@@ -66,7 +66,7 @@ request-answered i m lent dest r room to =
     ∙ packet-answered (holding i []) m lent dest typeE eraseText (resting-sound r) refl refl room refl (omega arith) (omega arith)
     ∙ ap (λ (a : Answer ℕ). replicate 18 waiting ++ (a ∷ [])) (packet-begins i m lent dest to)
 
-pub acceptable : (s : State₁) (m lent : List ℕ) (dest : ℕ) → isSound thisBoard s m ≡ true → s .erase ≡ idle → 64 ≤ length lent
+pub acceptable : (s : BoardState) (m lent : List ℕ) (dest : ℕ) → isSound thisBoard s m ≡ true → s .erase ≡ idle → 64 ≤ length lent
     → (dest ≡ 0x40 + s .ident .id) ⊎ (dest ≡ 0x2A)
     → answersIn (run thisBoard (s .ident) s m (call gap lent ∷ fed lent (eraseRequest dest))) ≡ replicate 19 waiting ++ (begun ∷ [])
 unfolding answersIn

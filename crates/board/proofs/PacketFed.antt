@@ -13,12 +13,12 @@ use Rattle.receiver.proofs.Theorems.{packet-received}
 use Rattle.erase.specs.Board.{Identity, Answer, waiting, Erase, idle, after}
 use Rattle.erase.specs.Calls.{isShort, isSound, callOn, onCall}
 use Rattle.erase.specs.Lists.{call, answered, seen, run}
-use Rattle.board.specs.Calls.{Call, byte, State₁, Left₁, holding, lends, onPacket, onReceipt, does, thisBoard}
+use Rattle.board.specs.Calls.{Call, byte, BoardState, BoardOutcome, holding, lends, onPacket, onReceipt, does, thisBoard}
 use Rattle.board.specs.Demand3.{Events, Trace, answersIn}
 use Rattle.board.proofs.BoardLaws.{Resting, resting, resting-sound, holds-others}
 
 -- past the checks a call is done
-pub call-done : (c : Call) (s : State₁) (m lent : List ℕ) → lends c && isShort lent ≡ false → isSound thisBoard s m ≡ true → s .erase ≡ idle
+pub call-done : (c : Call) (s : BoardState) (m lent : List ℕ) → lends c && isShort lent ≡ false → isSound thisBoard s m ≡ true → s .erase ≡ idle
     → onCall thisBoard c s m lent ≡ does c s m lent
 unfolding onCall callOn
 call-done c s m lent t h q = simp (t, h) (ap (λ (e : Erase Bool). callOn thisBoard e c s m lent) q)
@@ -28,7 +28,7 @@ abbrev pub fed : List ℕ → List ℕ → Events
 fed lent bytes = map (λ (b : ℕ). call (byte b) lent) bytes
 
 -- what is seen of a call, and of a list after it
-abbrev pub seenThen : Identity → List ℕ → Events → Left₁ → Trace
+abbrev pub seenThen : Identity → List ℕ → Events → BoardOutcome → Trace
 seenThen i m es o = seen thisBoard o m ∷ run thisBoard i (o .state) (after o m) es
 
 module _ (i : Identity) (m lent : List ℕ) (room : 64 ≤ length lent) where
@@ -57,14 +57,14 @@ module _ (i : Identity) (m lent : List ℕ) (room : 64 ≤ length lent) where
       rw (byte-received b held r w, bytes-fed n (receive.onByte held b .held) bytes p es (byte-leaves b held r) (cc))
 
 -- a sound board with no erase pending and nothing held
-pub packet-fed : (s : State₁) (m lent : List ℕ) (dest kind : ℕ) (text : List ℕ) (es : Events) → isSound thisBoard s m ≡ true → s .erase ≡ idle → s .held ≡ []
+pub packet-fed : (s : BoardState) (m lent : List ℕ) (dest kind : ℕ) (text : List ℕ) (es : Events) → isSound thisBoard s m ≡ true → s .erase ≡ idle → s .held ≡ []
     → 64 ≤ length lent → isRequestType kind ≡ true → 2 ≤ length text → length text ≤ 62
     → run thisBoard (s .ident) s m (fed lent (packet dest zeroByte kind text) ++ es)
     ≡ replicate (length text + 10) (answered waiting lent m) ++ seenThen (s .ident) m es (onPacket (s .ident) m (packet dest zeroByte kind text) lent)
 packet-fed s m lent dest kind text es h q n room request least most =
     let p = packet dest zeroByte kind text in
     let is : s ≡ holding (s .ident) [] = λ j. record { ident = s .ident; held = n j; erase = q j } in
-    ap (λ (b : State₁). run thisBoard (s .ident) b m (fed lent p ++ es)) is
+    ap (λ (b : BoardState). run thisBoard (s .ident) b m (fed lent p ++ es)) is
     ∙ bytes-fed (s .ident) m lent room (length text + 10) [] p p es (subst (λ (held : List ℕ). Resting (s .ident) held m) n (resting s m q h))
     (packet-received dest kind text request least most)
 
@@ -75,11 +75,11 @@ unfolding answersIn
 waited zero m lent os = refl
 waited (suc n) m lent os = ap (λ (l : List (Answer ℕ)). waiting ∷ l) (waited n m lent os)
 
-last-answered : (i : Identity) (m : List ℕ) (o : Left₁) → answersIn (seenThen i m [] o) ≡ o .answer ∷ []
+last-answered : (i : Identity) (m : List ℕ) (o : BoardOutcome) → answersIn (seenThen i m [] o) ≡ o .answer ∷ []
 unfolding answersIn seen run
 last-answered i m o = refl
 
-pub packet-answered : (s : State₁) (m lent : List ℕ) (dest kind : ℕ) (text : List ℕ) → isSound thisBoard s m ≡ true → s .erase ≡ idle → s .held ≡ []
+pub packet-answered : (s : BoardState) (m lent : List ℕ) (dest kind : ℕ) (text : List ℕ) → isSound thisBoard s m ≡ true → s .erase ≡ idle → s .held ≡ []
     → 64 ≤ length lent → isRequestType kind ≡ true → 2 ≤ length text → length text ≤ 62
     → answersIn (run thisBoard (s .ident) s m (fed lent (packet dest zeroByte kind text)))
     ≡ replicate (length text + 10) waiting ++ (onPacket (s .ident) m (packet dest zeroByte kind text) lent .answer ∷ [])

@@ -20,8 +20,8 @@ use Rattle.board.specs.Calls.{
   Call,
   byte,
   gap,
-  State₁,
-  Left₁,
+  BoardState,
+  BoardOutcome,
   answers,
   Addressee,
   own,
@@ -96,11 +96,11 @@ accept-declines held b =
 -- ---- the board's refusals
 
 -- what a refused call leaves: all as it was, or, with 2 to 8, all but the bytes held, of which there are none
-pub data Refused (s : State₁) (lent : List ℕ) (n : ℕ) (o : Left₁) : Type 0 where
+pub data Refused (s : BoardState) (lent : List ℕ) (n : ℕ) (o : BoardOutcome) : Type 0 where
   unchanged : o ≡ refuse thisBoard n s lent → Refused s lent n o
   emptied : 2 ≤ n → n ≤ 8 → o ≡ answers (refused n) (s .ident) [] lent → Refused s lent n o
 
-module _ (s : State₁) (m lent : List ℕ) (n : ℕ) (q : s .erase ≡ idle) where
+module _ (s : BoardState) (m lent : List ℕ) (n : ℕ) (q : s .erase ≡ idle) where
   effect-refused : (to : Addressee) (p : List ℕ) (x : Effect) → effect (s .ident) m (requestIn (getD p 4 0) (textOf p)) ≡ x
       → onPacketTo to (s .ident) m p lent .answer ≡ refused n → Refused s lent n (onPacketTo to (s .ident) m p lent)
   unfolding onPacketTo toOwn toAll
@@ -130,7 +130,7 @@ module _ (s : State₁) (m lent : List ℕ) (n : ℕ) (q : s .erase ≡ idle) wh
   done-refused (byte b) e = receipt-refused _ _ (accept-declines (s .held) b) e
   done-refused gap e = let z : _≡_ {A = ℕ} 0 1 = cc in absurd (omega arith)
 
-pub call-refused : (c : Call) (s : State₁) (m lent : List ℕ) (n : ℕ) → onCall thisBoard c s m lent .answer ≡ refused n
+pub call-refused : (c : Call) (s : BoardState) (m lent : List ℕ) (n : ℕ) → onCall thisBoard c s m lent .answer ≡ refused n
     → Refused s lent n (onCall thisBoard c s m lent)
 unfolding refuse
 call-refused c s m lent n a = go (called thisBoard c s m lent)
@@ -144,12 +144,12 @@ last-not-refused : (i : Identity) (owed : Bool) (n : ℕ) → lastAnswer i owed 
 last-not-refused i true n e = let z : _≡_ {A = ℕ} 0 1 = cc in omega arith
 last-not-refused i false n e = let z : _≡_ {A = ℕ} 0 1 = cc in omega arith
 
-clear-not-refused : (p : ℕ) (owed : Bool) (s : State₁) (lent : List ℕ) (n : ℕ) → stepOn thisBoard (pending p owed) s lent .answer ≡ refused n → ⊥
+clear-not-refused : (p : ℕ) (owed : Bool) (s : BoardState) (lent : List ℕ) (n : ℕ) → stepOn thisBoard (pending p owed) s lent .answer ≡ refused n → ⊥
 clear-not-refused p owed s lent n =
     step-clears-or-ends thisBoard (λ o. o .answer ≡ refused n → ⊥) p owed s lent
     (λ t e. let z : _≡_ {A = ℕ} 0 1 = cc in omega arith) (λ t e. last-not-refused (s .ident) owed n e)
 
-pub step-refused : (s : State₁) (m lent : List ℕ) (n : ℕ) → onStep thisBoard s m lent .answer ≡ refused n → onStep thisBoard s m lent ≡ refuse thisBoard n s lent
+pub step-refused : (s : BoardState) (m lent : List ℕ) (n : ℕ) → onStep thisBoard s m lent .answer ≡ refused n → onStep thisBoard s m lent ≡ refuse thisBoard n s lent
 unfolding refuse
 step-refused s m lent n a = go (stepped thisBoard s m lent)
   where

@@ -8,6 +8,7 @@ use Rattle.wire.specs.Digits.{hexOf}
 use Rattle.wire.proofs.DigitLaws.{hex-length}
 use Rattle.messages.specs.Text.{dateText, parameterText, itemReplyName, replyText}
 use Rattle.messages.specs.View.{dateAnswerOf, replyOf, replyCount}
+use Rattle.messages.proofs.SendLaws.{Short}
 use Rattle.messages.specs.declared.message.DateAnswer.{DateAnswer}
 use Rattle.messages.specs.declared.message.Reply.{Reply}
 use Rattle.board.proofs.ReplyLaws.{Fitting, name-length}
@@ -20,7 +21,7 @@ unfolding replyText dateText
 date-text-fits (DateAnswer.Read d) = omega arith
 date-text-fits (DateAnswer.Written o d) = omega arith
 
-pub reply-text-fits : (r : Reply) (bytes : List ℕ) → replyCount r ≤ 16 → Fitting (replyOf r bytes)
+reply-text-fits : (r : Reply) (bytes : List ℕ) → replyCount r ≤ 16 → Fitting (replyOf r bytes)
 unfolding replyText parameterText
 reply-text-fits Reply.Null bytes h = omega arith
 reply-text-fits (Reply.Got o p) bytes h = omega arith
@@ -32,3 +33,6 @@ reply-text-fits (Reply.Item i n) bytes h =
     let l = length-append (itemReplyName i) (hexOf (take n bytes)) in
     omega (arith, name-length i, hex-length (take n bytes), first-few n bytes h)
 reply-text-fits (Reply.TagWritten o n) bytes h = omega (arith, hex-length (take n bytes), first-few n bytes h)
+
+pub reply-short : (r : Reply) (bytes : List ℕ) → replyCount r ≤ 16 → Short (replyText (replyOf r bytes))
+reply-short r bytes h = let f = reply-text-fits r bytes h in record { least = f .0; most = f .1 }

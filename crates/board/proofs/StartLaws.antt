@@ -12,7 +12,7 @@ use lib.ListN.{length}
 use Rattle.erase.specs.Board.{Identity, noBoard}
 use Rattle.erase.specs.Calls.{mark, isShort, refuse, isSound, onCall, onStep, onStart}
 use Rattle.store.specs.Layout.{unusedStore}
-use Rattle.board.specs.Calls.{Call, State₁, isIdentity, lends, startOther, thisBoard}
+use Rattle.board.specs.Calls.{Call, BoardState, isIdentity, lends, startOther, thisBoard}
 
 -- ---- identities out of range
 
@@ -30,20 +30,20 @@ no-id i e = rw (lt-leb 1 (i .id) (omega arith))
 
 -- ---- what they get
 
-unnamed-unsound : (s : State₁) (m : List ℕ) → isIdentity (s .ident) ≡ false → isSound thisBoard s m ≡ false
+unnamed-unsound : (s : BoardState) (m : List ℕ) → isIdentity (s .ident) ≡ false → isSound thisBoard s m ≡ false
 unfolding isSound
 unnamed-unsound s m e = rw e
 
-refusals : (t : Bool) (s : State₁) (lent : List ℕ) → cond t (refuse thisBoard 10 s lent) (refuse thisBoard 12 s lent) ≡ refuse thisBoard (cond t 10 12) s lent
+refusals : (t : Bool) (s : BoardState) (lent : List ℕ) → cond t (refuse thisBoard 10 s lent) (refuse thisBoard 12 s lent) ≡ refuse thisBoard (cond t 10 12) s lent
 refusals true s lent = refl
 refusals false s lent = refl
 
-pub unnamed-call-refused : (c : Call) (s : State₁) (m lent : List ℕ) → isIdentity (s .ident) ≡ false
+pub unnamed-call-refused : (c : Call) (s : BoardState) (m lent : List ℕ) → isIdentity (s .ident) ≡ false
     → onCall thisBoard c s m lent ≡ refuse thisBoard (cond (lends c && isShort lent) 10 12) s lent
 unfolding onCall
 unnamed-call-refused c s m lent e = rw (unnamed-unsound s m e) (refusals (lends c && isShort lent) s lent)
 
-pub unnamed-step-refused : (s : State₁) (m lent : List ℕ) → isIdentity (s .ident) ≡ false
+pub unnamed-step-refused : (s : BoardState) (m lent : List ℕ) → isIdentity (s .ident) ≡ false
     → onStep thisBoard s m lent ≡ refuse thisBoard (cond (isShort lent) 10 12) s lent
 unfolding onStep
 unnamed-step-refused s m lent e = rw (unnamed-unsound s m e) (refusals (isShort lent) s lent)

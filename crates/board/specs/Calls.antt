@@ -22,17 +22,19 @@ pub data Call : Type 0 where
   byte : ℕ → Call
   gap : Call
 
-abbrev pub State₁ : Type 0
-State₁ = State (List ℕ) Bool
+-- a board: the bytes held, and whether the last step of its erase owes the reply
+abbrev pub BoardState : Type 0
+BoardState = State (List ℕ) Bool
 
-abbrev pub Left₁ : Type 0
-Left₁ = Outcome State₁ ℕ
+-- what a call leaves: a reply's answer tells its length
+abbrev pub BoardOutcome : Type 0
+BoardOutcome = Outcome BoardState ℕ
 
-abbrev pub holding : Identity → List ℕ → State₁
+abbrev pub holding : Identity → List ℕ → BoardState
 holding i held = record { ident = i; held = held; erase = idle }
 
 -- an answer that stores nothing and sends nothing
-abbrev pub answers : Answer ℕ → Identity → List ℕ → List ℕ → Left₁
+abbrev pub answers : Answer ℕ → Identity → List ℕ → List ℕ → BoardOutcome
 answers a i held lent = record { answer = a; state = holding i held; stores = []; buffer = lent }
 
 -- ID 1 to 8, serial number and model of at most 16 bytes
@@ -58,40 +60,40 @@ addressee i dest = cond (eqb dest (addressOf (i .id))) own (cond (eqb dest allAd
 
 -- ---- a good packet: what comes of its effect, for this board and for all
 
-unfoldable pub toOwn : Identity → Effect → List ℕ → Left₁
+unfoldable pub toOwn : Identity → Effect → List ℕ → BoardOutcome
 toOwn i (replies r es) lent =
     record { answer = reply (length (replyFrom i r)); state = holding i []; stores = es; buffer = over (replyFrom i r) lent }
 toOwn i begins lent =
     record { answer = begun; state = record { ident = i; held = []; erase = pending 1 true }; stores = entry 0 0xE7 ∷ []; buffer = lent }
 
-unfoldable pub toAll : Identity → Effect → List ℕ → Left₁
+unfoldable pub toAll : Identity → Effect → List ℕ → BoardOutcome
 toAll i (replies r es) lent = record { answer = silent; state = holding i []; stores = es; buffer = lent }
 toAll i begins lent =
     record { answer = begun; state = record { ident = i; held = []; erase = pending 1 false }; stores = entry 0 0xE7 ∷ []; buffer = lent }
 
-unfoldable pub onPacketTo : Addressee → Identity → List ℕ → List ℕ → List ℕ → Left₁
+unfoldable pub onPacketTo : Addressee → Identity → List ℕ → List ℕ → List ℕ → BoardOutcome
 onPacketTo own i m p lent = toOwn i (effect i m (requestIn (getD p 4 0) (textOf p))) lent
 onPacketTo all i m p lent = toAll i (effect i m (requestIn (getD p 4 0) (textOf p))) lent
 onPacketTo another i m p lent = answers (refused 8) i [] lent
 
-unfoldable pub onPacket : Identity → List ℕ → List ℕ → List ℕ → Left₁
+unfoldable pub onPacket : Identity → List ℕ → List ℕ → List ℕ → BoardOutcome
 onPacket i m p lent = onPacketTo (addressee i (getD p 2 0)) i m p lent
 
 -- ---- what the receiver makes of a byte
 
-unfoldable pub onReceipt : receive.Answer → List ℕ → Identity → List ℕ → List ℕ → Left₁
+unfoldable pub onReceipt : receive.Answer → List ℕ → Identity → List ℕ → List ℕ → BoardOutcome
 onReceipt receive.waiting held i m lent = answers waiting i held lent
 onReceipt (receive.refused n) held i m lent = answers (refused n) i held lent
 onReceipt (receive.whole p) held i m lent = onPacket i m p lent
 
-unfoldable pub does : Call → State₁ → List ℕ → List ℕ → Left₁
+unfoldable pub does : Call → BoardState → List ℕ → List ℕ → BoardOutcome
 does (byte b) s m lent = onReceipt (receive.accept (s .held) b .answer) (receive.accept (s .held) b .held) (s .ident) m lent
 does gap s m lent = answers waiting (s .ident) [] lent
 
 -- ---- the kind
 
 -- the packet that a byte completes went to this board alone
-unfoldable pub owes : Call → State₁ → Bool
+unfoldable pub owes : Call → BoardState → Bool
 owes (byte b) s = eqb (getD (s .held ++ (b ∷ [])) 2 0) (addressOf (s .ident .id))
 owes gap s = false
 
@@ -115,7 +117,7 @@ lastBuffer i true lent = over (eraseReply i) lent
 lastBuffer i false lent = lent
 
 -- refusal 11, then 12
-unfoldable pub startOther : Identity → List ℕ → Started State₁
+unfoldable pub startOther : Identity → List ℕ → Started BoardState
 startOther i m =
     cond (eqb (length m) 128 && eqb (mark m) (mark unusedStore))
     (cond (isIdentity i && fieldsInRange m) (board (holding i []) []) (noBoard 12))

@@ -11,10 +11,10 @@ use lib.Bits.{bitXor}
 use lib.Dec.{ltb, eqb}
 use lib.ListN.{length, getD, set, drop, replicate}
 use Rattle.plan.specs.Stores.{applied}
-use Rattle.erase.specs.Board.{Identity, Answer, waiting, silent, begun, more, ended, refused, reply, State, idle, Started, board, noBoard, after}
+use Rattle.erase.specs.Board.{Identity, Answer, waiting, silent, begun, more, ended, refused, reply, idle, Started, board, noBoard, after}
 use Rattle.erase.specs.Calls.{isSound, onStart}
 use Rattle.erase.specs.Lists.{Event, call, step, cut, Seen, answered, started, unstarted, AllStarted, run, Acceptance, traceAfter, identity, left, ends}
-use Rattle.board.specs.Calls.{Call, byte, gap, thisBoard}
+use Rattle.board.specs.Calls.{Call, byte, gap, BoardState, thisBoard}
 
 abbrev pub Events : Type 0
 Events = List (Event Call)
@@ -37,7 +37,7 @@ eraseReplyBytes id =
 unfoldable pub unusedTrace : Identity → Events → Trace
 unusedTrace i es = seenFrom (onStart thisBoard i unusedBytes)
   where
-    seenFrom : Started (State (List ℕ) Bool) → Trace
+    seenFrom : Started BoardState → Trace
     seenFrom (board s stores) = run thisBoard i s (applied stores unusedBytes) es
     seenFrom (noBoard n) = unstarted n ∷ []
 
@@ -110,7 +110,7 @@ pub record Demand3 : Type 0 where
       → (es₁ es₂ : Events) → ends 0 es₁ ≡ true → ends 0 es₂ ≡ true
       → (fs : Events) → drop (length es₁) (traceAfter thisBoard a₁ (es₁ ++ fs)) ≡ drop (length es₂) (traceAfter thisBoard a₂ (es₂ ++ fs))
   -- every sound board with no erase pending, on or in standby, accepts: a gap, and the request to its ID or to ALL
-  pub acceptable : (s : State (List ℕ) Bool) (m lent : List ℕ) (dest : ℕ) → isSound thisBoard s m ≡ true → s .erase ≡ idle → 64 ≤ length lent
+  pub acceptable : (s : BoardState) (m lent : List ℕ) (dest : ℕ) → isSound thisBoard s m ≡ true → s .erase ≡ idle → 64 ≤ length lent
       → (dest ≡ 0x40 + s .ident .id) ⊎ (dest ≡ 0x2A)
       → answersIn (run thisBoard (s .ident) s m (call gap lent ∷ map (λ (b : ℕ). call (byte b) lent) (eraseRequest dest)))
       ≡ replicate 19 waiting ++ (begun ∷ [])

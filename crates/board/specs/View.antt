@@ -13,7 +13,7 @@ use Rattle.erase.specs.Board as erase
 use Rattle.erase.specs.Calls.{mark, firstBytes, same, isSound, isSoundAs}
 use Rattle.actions.specs.View.{seenText, identityOf, Ready}
 use Rattle.board.specs.Calls as calls
-use Rattle.board.specs.Calls.{Left₁, State₁, thisBoard}
+use Rattle.board.specs.Calls.{BoardOutcome, BoardState, thisBoard}
 use Rattle.board.specs.declared.packet.Addressee.{Addressee}
 use Rattle.board.specs.declared.packet.Acted.{Acted}
 use Rattle.board.specs.declared.board.Erase.{Erase}
@@ -29,7 +29,7 @@ abbrev pub eraseOf : Erase → erase.Erase Bool
 eraseOf Erase.Idle = erase.idle
 eraseOf (Erase.Pending place owed) = erase.pending place owed
 
-abbrev pub stateOf : Board → State₁
+abbrev pub stateOf : Board → BoardState
 stateOf b =
     record { ident = identityOf (b .id) (b .serial) (b .model); held = take (b .len) (b .held); erase = eraseOf (b .erase) }
 
@@ -45,21 +45,21 @@ answerOf (Answer.Reply n) = erase.reply n
 -- what a call leaves: answer, board, store and lent buffer
 pub record Result : Type 0 where
   pub answer : erase.Answer ℕ
-  pub state : State₁
+  pub state : BoardState
   pub store : List ℕ
   pub buffer : List ℕ
 
-abbrev pub result : Left₁ → List ℕ → Result
+abbrev pub result : BoardOutcome → List ℕ → Result
 result o m = record { answer = o .answer; state = o .state; store = erase.after o m; buffer = o .buffer }
 
 abbrev pub gave : Done → List ℕ → List ℕ → Result
 gave d m lent = record { answer = answerOf (d .answer); state = stateOf (d .board); store = m; buffer = lent }
 
-abbrev pub startedWith : Verdict → Board → erase.Started State₁
+abbrev pub startedWith : Verdict → Board → erase.Started BoardState
 startedWith Verdict.Ready b = erase.board (stateOf b) []
 startedWith (Verdict.Refused r) b = erase.noBoard (numberOf r)
 
-abbrev pub started : Started → erase.Started State₁
+abbrev pub started : Started → erase.Started BoardState
 started s = startedWith (s .verdict) (s .board)
 
 -- ---- identities
@@ -73,7 +73,7 @@ identityFits id serial model = leb 1 id && leb id 8 && leb serial 16 && leb mode
 
 -- ---- starts
 
-abbrev pub freshState : ℕ → List ℕ → List ℕ → Erase → State₁
+abbrev pub freshState : ℕ → List ℕ → List ℕ → Erase → BoardState
 freshState id serial model e = record { ident = givenIdentity id serial model; held = []; erase = eraseOf e }
 
 -- what a refused start gives: ID 0, which no call takes
@@ -122,7 +122,7 @@ acted (Acted.Reply n) i m lent = record { answer = erase.reply n; state = calls.
 
 -- ---- inner calls
 
-abbrev pub leftState : Board → Erase → State₁
+abbrev pub leftState : Board → Erase → BoardState
 leftState b e = record { ident = identityOf (b .id) (b .serial) (b .model); held = []; erase = eraseOf e }
 
 pub record Accepting (b : Board) (m lent : List ℕ) : Type 0 where

@@ -1,3 +1,4 @@
 pub mod WriteLaws
 pub mod RoundTrips
 pub mod Vectors
+pub mod SendLaws

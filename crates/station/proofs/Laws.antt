@@ -13,6 +13,7 @@ use Rattle.wire.proofs.DigitLaws.{hex-length}
 use Rattle.messages.specs.Message as message
 use Rattle.messages.specs.Text.{dateText, requestText}
 use Rattle.messages.specs.View.{requestOf, requestCount}
+use Rattle.messages.proofs.SendLaws.{Short}
 use Rattle.messages.specs.declared.message.Item.{Item}
 use Rattle.messages.specs.declared.message.Request.{Request}
 use Rattle.station.specs.Encode.{Encoding, refused, addressIn, encodingTo, encodingOf, Encodes}
@@ -20,11 +21,6 @@ use Rattle.station.specs.declared.encode.Destination.{Destination}
 use Rattle.station.specs.declared.encode.Encoded.{Encoded}
 
 -- ---- the texts of requests
-
--- a text that a packet of at most 64 bytes can hold
-pub record Short (text : List ℕ) : Type 0 where
-  pub least : 2 ≤ length text
-  pub most : length text ≤ 53
 
 name-fits : (i : Item) → Short (requestText (message.itemRead i))
 unfolding requestText

@@ -8,41 +8,24 @@ use mathlib.Core.Path.{_≡_, sym, ap, _∙_}
 use Prim.Native.Nat.{ℕ, _≤_}
 use native.Mathlib.Omega.{arith}
 use lib.ListN.{length, take}
-use lib.Seq.{length-take-le}
-use Rattle.wire.specs.Packet.{over, requestPacket, Fits}
-use Rattle.wire.proofs.PacketLaws.{over-take, over-length}
+use Rattle.wire.specs.Packet.{over, requestPacket}
 use Rattle.messages.specs.View.{Writes}
+use Rattle.messages.proofs.SendLaws.{text-first, text-fits, text-there, text-counted}
 use Rattle.messages.specs.declared.write.Written.{Written}
 use Rattle.station.specs.Encode.{addressIn, addressAs, encodingOf, Encodes}
 use Rattle.station.specs.declared.encode.Destination.{Destination}
 use Rattle.station.specs.declared.encode.Encoded.{Encoded}
-use Rattle.station.proofs.Laws.{Short, request-text-fits, refused-leaves}
+use Rattle.station.proofs.Laws.{request-text-fits, refused-leaves}
 use Rattle.station.proofs.encode.encode.Statement.{statement}
 use Rattle.station.proofs.encode.encode.Tie as tie
 
 module _ (type : ℕ) (text : List ℕ) (w : Written) (before after : List ℕ) (writes : Writes type text w before after) where
-  text-first : take (w .length) after ≡ text
-  text-first = rw (writes .buffer) (over-take text before (w .length) (sym (writes .count)))
-
   sent : (dest : Destination) (good : Bool) (address n : ℕ) (out filled : List ℕ) → 64 ≤ length out → addressIn dest ≡ some address → good ≡ true
       → (n ≡ length (requestPacket address (w .kind) (take (w .length) after))) × (filled ≡ over (requestPacket address (w .kind) (take (w .length) after)) out)
       → Encodes (encodingOf (length out) dest good type text) (Encoded.Length n) out filled
   unfolding encodingOf
   sent dest good address n out filled room known g e =
-      rw (le-ltb (length out) 64 room, known, g, ← text-first, ← writes .kind) (record { answer = e .0; buffer = e .1 })
-
-  module _ (few : Short text) where
-    text-fits : (out : List ℕ) → 64 ≤ length out → Fits (take (w .length) after) out
-    text-fits out h = rw text-first (record { least = few .least; most = omega arith; room = omega arith })
-
-    module _ (room : length before ≡ 62) where
-      text-there : w .length ≤ length after
-      text-there =
-          rw (writes .buffer)
-          (omega (arith, writes .count, over-length text before (w .length) (sym (writes .count)) (omega (arith, writes .count))))
-
-      text-counted : w .length ≡ length (take (w .length) after)
-      text-counted = sym (length-take-le (w .length) after text-there)
+      rw (le-ltb (length out) 64 room, known, g, ← text-first type text w before after writes, ← writes .kind) (record { answer = e .0; buffer = e .1 })
 
 returns : tie.Need-returns
 unfolding encodingOf
