@@ -1,18 +1,25 @@
 -- An identity out of range is refused with 12 by every start and every call, whatever the store: a serial number or a model of 17 bytes or
--- more, and the ID 0 that a refused start gives.
+-- more, and the ID 0 that a refused start gives. A board that a start does give is sound.
 use Prim.Native.Nat.{ℕ, _≤_}
 use mathlib.Core.Bool.{Bool, true, false, cond, _&&_, and-false}
 use mathlib.Core.List.{List}
 use mathlib.Core.Logic.{_⊎_, inl, inr}
 use mathlib.Core.Path.{_≡_, refl}
 use native.Mathlib.Omega.{arith}
-use borrow.Author.Tests.{eq-eqb, ne-eqb, lt-leb}
+use borrow.Author.Tests.{eq-eqb, ne-eqb, eqb-true, lt-leb}
 use lib.Dec.{eqb}
 use lib.ListN.{length}
-use Rattle.erase.specs.Board.{Identity, noBoard}
-use Rattle.erase.specs.Calls.{mark, isShort, refuse, isSound, onCall, onStep, onStart}
-use Rattle.store.specs.Layout.{unusedStore}
+use Rattle.plan.specs.Stores.{applied}
+use Rattle.erase.specs.Board.{Identity, Started, board, noBoard}
+use Rattle.erase.proofs.FirstBytes.{clear-first}
+use Rattle.erase.proofs.Pending.{pending-sound}
+use Rattle.erase.proofs.Kept.{rest-sound}
+use Rattle.wire.proofs.DigitLaws.{cond-by}
+use Rattle.store.proofs.StoreLaws.{both}
+use Rattle.erase.specs.Calls.{mark, isShort, refuse, atRest, isSound, onCall, onStep, onStart}
+use Rattle.store.specs.Layout.{unusedStore, fieldsInRange}
 use Rattle.board.specs.Calls.{Call, BoardState, isIdentity, lends, startOther, thisBoard}
+use Rattle.board.proofs.BoardLaws.{board-laws}
 
 -- ---- identities out of range
 
@@ -55,3 +62,26 @@ unnamed-start-refused i m size (inl k) e =
     let z : eqb (mark m) 0xE7 ≡ false = ne-eqb (mark m) 0xE7 (λ q. omega arith) in
     rw (eq-eqb (length m) 128 size, z, eq-eqb (mark m) 0 k, e)
 unnamed-start-refused i m size (inr k) e = rw (eq-eqb (length m) 128 size, eq-eqb (mark m) 0xE7 k, e)
+
+-- ---- what a start gives is sound
+
+abbrev pub SoundlyStarted : List ℕ → Started BoardState → Type 0
+SoundlyStarted m (board s es) = isSound thisBoard s (applied es m) ≡ true
+SoundlyStarted m (noBoard n) = Unit {0}
+
+pub started-sound : (i : Identity) (m : List ℕ) → SoundlyStarted m (onStart thisBoard i m)
+unfolding onStart startOther atRest
+started-sound i m =
+    cond-by (SoundlyStarted m) (eqb (length m) 128 && eqb (mark m) 0xE7) _ _
+    (λ t. let b = both (eqb (length m) 128) (eqb (mark m) 0xE7) t in
+    cond-by (SoundlyStarted m) (isIdentity i) _ _
+    (λ n. pending-sound board-laws false
+    (record { named = n; below = omega arith; size = eqb-true (length m) 128 (b .0); marked = eqb-true (mark m) 0xE7 (b .1); cleared = clear-first m unusedStore }))
+    (λ _. tt))
+    (λ _. cond-by (SoundlyStarted m) (eqb (length m) 128 && eqb (mark m) (mark unusedStore)) _ _
+    (λ t. let b = both (eqb (length m) 128) (eqb (mark m) (mark unusedStore)) t in
+    cond-by (SoundlyStarted m) (isIdentity i && fieldsInRange m) _ _
+    (λ u. let c = both (isIdentity i) (fieldsInRange m) u in
+    rest-sound board-laws
+    (record { named = c .0; size = eqb-true (length m) 128 (b .0); marked = eqb-true (mark m) (mark unusedStore) (b .1); ranged = c .1 }))
+    (λ _. tt)) (λ _. tt))

@@ -4,7 +4,7 @@ use mathlib.Core.Bool.{Bool, true, false, cond, _||_, false≢true}
 use mathlib.Core.Logic.{_≢_, inl, inr}
 use mathlib.Core.List.{List, [], _∷_}
 use mathlib.Core.Option.{Option, none, some}
-use Prim.Native.Nat.{ℕ, _+_, _^_, _≤_, _<_}
+use Prim.Native.Nat.{ℕ, zero, suc, _+_, _^_, _≤_, _<_}
 use native.Mathlib.Omega.{arith}
 use lib.Dec.{leb, eqb}
 use lib.ListN.{length}
@@ -15,7 +15,7 @@ use Rattle.store.specs.Layout.{Field, settingFields, power, write, fits,
 use Rattle.store.specs.declared.settings.Setting.{Setting}
 use Rattle.store.specs.Settings.{rowOf, fieldOf, settingAt, accepts, inputKept, inputShown, kept, shown, current}
 use Rattle.store.specs.Contents.{isOn}
-use Rattle.store.proofs.StoreLaws.{isAmong, isField, each-one, fits-below, read-write, read-write-other}
+use Rattle.store.proofs.StoreLaws.{both, isAmong, isField, each-one, fits-below, read-write, read-write-other}
 
 setting-among : (s : Setting) → isAmong (fieldOf s) settingFields ≡ true
 setting-among Setting.Backlight = refl
@@ -157,3 +157,20 @@ settings-kept m u h s = ap (shown s) (h (fieldOf s .at) (fieldOf s .width) (sett
 
 pub power-keeps-settings : (m : List ℕ) (v : ℕ) (s : Setting) → current (write m power v) s ≡ current m s
 power-keeps-settings m v s = settings-kept m (write m power v) (λ at width h. get-put-other m 53 1 v at width (inr h)) s
+
+-- what is shown of a value that the field may hold is accepted, and is kept as that value
+pub kept-shown : (s : Setting) (k : ℕ) → fits (fieldOf s) k ≡ true → (accepts s (shown s k) ≡ true) × (kept s (shown s k) ≡ k)
+kept-shown Setting.Backlight k h = (both (leb 0 k) (leb k 100) h .1, refl)
+kept-shown Setting.Input k h = input-shown k (both (leb 0 k) (leb k 2) h .1)
+  where
+    input-shown : (k : ℕ) → leb k 2 ≡ true → (accepts Setting.Input (inputShown k) ≡ true) × (inputKept (inputShown k) ≡ k)
+    input-shown zero e = (refl, refl)
+    input-shown (suc zero) e = (refl, refl)
+    input-shown (suc (suc zero)) e = (refl, refl)
+    input-shown (suc (suc (suc k))) e = absurd (omega (arith, leb-true (suc (suc (suc k))) 2 e))
+kept-shown Setting.Balance k h = (both (leb 0 k) (leb k 60) h .1, refl)
+kept-shown Setting.PipH k h = (both (leb 0 k) (leb k 100) h .1, refl)
+kept-shown Setting.PipV k h = (both (leb 0 k) (leb k 100) h .1, refl)
+kept-shown Setting.AmbientLow k h = (both (leb 0 k) (leb k 100) h .1, refl)
+kept-shown Setting.AmbientHigh k h = (both (leb 0 k) (leb k 100) h .1, refl)
+kept-shown Setting.Tile k h = (h, refl)
