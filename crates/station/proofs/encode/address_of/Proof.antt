@@ -26,6 +26,9 @@ returns-3 c =
 add-t4 : tie.Need-add-t4
 add-t4 c = search needs
 
+cast-t5 : tie.Need-cast-t5
+cast-t5 c = search needs
+
 returns-4 : tie.Need-returns-4
 returns-4 c =
     let met = c .before .before .before in
@@ -34,4 +37,4 @@ returns-4 c =
 
 pub address-of-spec : {M : Type 1} → statement M
 address-of-spec =
-    tie.close (tie.spec enum-known-dest enum-told returns returns-2 returns-3 add-t4 returns-4)
+    tie.close (tie.spec enum-known-dest enum-told returns returns-2 returns-3 add-t4 cast-t5 returns-4)

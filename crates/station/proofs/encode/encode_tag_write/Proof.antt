@@ -1,6 +1,6 @@
 -- A tag of at most 16 bytes is the whole list; a longer one is refused, whatever request stands for it.
 use borrow.Author.Needs.{needs}
-use borrow.Author.Tests.{le-leb, lt-leb}
+use borrow.Author.Tests.{lt-leb}
 use native.Mathlib.Omega.{arith}
 use lib.ListN.{length}
 use lib.Seq.{take-length}
@@ -23,17 +23,16 @@ returns c =
 cast-t9 : tie.Need-cast-t9
 cast-t9 c = search needs
 
-encode-requires-2 : tie.Need-encode-requires-2
-encode-requires-2 c κs = search needs
+encode-request-requires : tie.Need-encode-request-requires
+encode-request-requires c κs = search needs
 
 same-length-2 : tie.Need-same-length-2
 same-length-2 c = search needs
 
 returns-2 : tie.Need-returns-2
 returns-2 c =
-    let tested = c .before .before .before .before in
-    let tag = tested .before .before .before .args .tag .now in
-    rw (le-leb (length tag) 16 (omega (arith, tested .if1 .left)), ← take-length tag) (c .before .before .encode2 .ensures)
+    let tag = c .before .before .before .before .before .before .before .args .tag .now in
+    rw (take-length tag) at (c .before .before .encode-request .ensures)
 
 pub encode-tag-write-spec : {M : Type 1} → statement M
 encode-tag-write-spec =
@@ -43,6 +42,6 @@ encode-tag-write-spec =
     same-length
     returns
     cast-t9
-    encode-requires-2
+    encode-request-requires
     same-length-2
     returns-2)
