@@ -1,0 +1,28 @@
+-- The encoder's answer, told.
+use borrow.Author.Needs.{needs}
+use Rattle.station_c.proofs.Laws.{exported}
+use Rattle.station_c.proofs.encode.station_encode_tag_write.Statement.{statement}
+use Rattle.station_c.proofs.encode.station_encode_tag_write.Tie as tie
+
+destination-requires : tie.Need-destination-requires
+destination-requires c κs = search needs
+
+encode-tag-write-requires : tie.Need-encode-tag-write-requires
+encode-tag-write-requires c κs = search needs
+
+tell-requires : tie.Need-tell-requires
+tell-requires c κs = search needs
+
+same-length : tie.Need-same-length
+same-length c = search needs
+
+returns : tie.Need-returns
+returns c =
+    let encoded = c .before .before .before .before in
+    let asked = encoded .before .before in
+    rw (← asked .destination .ensures) (exported (encoded .encode-tag-write .ensures) (c .tell .ensures))
+
+pub station-encode-tag-write-spec : {M : Type 1} → statement M
+station-encode-tag-write-spec =
+    tie.close
+    (tie.spec destination-requires encode-tag-write-requires tell-requires same-length returns)

@@ -1,0 +1,170 @@
+// The encoder for C: the result is 0 or the refusal, and the packet's length goes to a lent place. Refused, nothing is written.
+ghost use mathlib.Core.Path.{_≡_};
+ghost use lib.ListN.{length};
+ghost use Rattle.messages.specs.Message as message;
+ghost use Rattle.messages.specs.declared.message.Item.{Item};
+ghost use Rattle.messages.specs.View.{requestOf, requestCount, Beside};
+ghost use Rattle.station.specs.Encode.{Encoding, encodedAs, encoding};
+ghost use Rattle.station_c.specs.Encode.{destinationOf, Tells, Exports, dateOf};
+use messages::message::Date;
+use messages::message::Item;
+use messages::message::Request;
+use station::encode;
+use station::encode::Destination;
+use station::encode::Encoded;
+
+#[no_mangle]
+pub extern "C" fn station_encode_get(
+    dest: u16,
+    page: u8,
+    code: u8,
+    out: &mut [u8],
+    size: &mut usize,
+) -> u8
+    ensures { λ r. ⌜ Exports (encoding (length (now (out .entry))) (destinationOf dest) (message.getParameter page code)) r (now (out .entry)) (now (out .exit)) (now (size .entry)) (now (size .exit)) ⌝ }
+{
+    export(dest, Request::Get { page, code }, b"", out, size)
+}
+
+#[no_mangle]
+pub extern "C" fn station_encode_set(
+    dest: u16,
+    page: u8,
+    code: u8,
+    value: u16,
+    out: &mut [u8],
+    size: &mut usize,
+) -> u8
+    ensures { λ r. ⌜ Exports (encoding (length (now (out .entry))) (destinationOf dest) (message.setParameter page code value)) r (now (out .entry)) (now (out .exit)) (now (size .entry)) (now (size .exit)) ⌝ }
+{
+    export(dest, Request::Set { page, code, value }, b"", out, size)
+}
+
+#[no_mangle]
+pub extern "C" fn station_encode_power_read(dest: u16, out: &mut [u8], size: &mut usize) -> u8
+    ensures { λ r. ⌜ Exports (encoding (length (now (out .entry))) (destinationOf dest) message.powerRead) r (now (out .entry)) (now (out .exit)) (now (size .entry)) (now (size .exit)) ⌝ }
+{
+    export(dest, Request::PowerRead, b"", out, size)
+}
+
+#[no_mangle]
+pub extern "C" fn station_encode_power_control(
+    dest: u16,
+    mode: u16,
+    out: &mut [u8],
+    size: &mut usize,
+) -> u8
+    ensures { λ r. ⌜ Exports (encoding (length (now (out .entry))) (destinationOf dest) (message.powerControl mode)) r (now (out .entry)) (now (out .exit)) (now (size .entry)) (now (size .exit)) ⌝ }
+{
+    export(dest, Request::PowerControl(mode), b"", out, size)
+}
+
+#[no_mangle]
+pub extern "C" fn station_encode_date_read(dest: u16, out: &mut [u8], size: &mut usize) -> u8
+    ensures { λ r. ⌜ Exports (encoding (length (now (out .entry))) (destinationOf dest) message.dateRead) r (now (out .entry)) (now (out .exit)) (now (size .entry)) (now (size .exit)) ⌝ }
+{
+    export(dest, Request::DateRead, b"", out, size)
+}
+
+#[no_mangle]
+pub extern "C" fn station_encode_date_write(
+    dest: u16,
+    year: u8,
+    month: u8,
+    day: u8,
+    weekday: u8,
+    hour: u8,
+    minute: u8,
+    daylight: u8,
+    out: &mut [u8],
+    size: &mut usize,
+) -> u8
+    ensures { λ r. ⌜ Exports (encoding (length (now (out .entry))) (destinationOf dest) (message.dateWrite (dateOf year month day weekday hour minute daylight))) r (now (out .entry)) (now (out .exit)) (now (size .entry)) (now (size .exit)) ⌝ }
+{
+    let date = Date {
+        year,
+        month,
+        day,
+        weekday,
+        hour,
+        minute,
+        daylight,
+    };
+    export(dest, Request::DateWrite(date), b"", out, size)
+}
+
+#[no_mangle]
+pub extern "C" fn station_encode_serial_read(dest: u16, out: &mut [u8], size: &mut usize) -> u8
+    ensures { λ r. ⌜ Exports (encoding (length (now (out .entry))) (destinationOf dest) (message.itemRead Item.Serial)) r (now (out .entry)) (now (out .exit)) (now (size .entry)) (now (size .exit)) ⌝ }
+{
+    export(dest, Request::ItemRead(Item::Serial), b"", out, size)
+}
+
+#[no_mangle]
+pub extern "C" fn station_encode_model_read(dest: u16, out: &mut [u8], size: &mut usize) -> u8
+    ensures { λ r. ⌜ Exports (encoding (length (now (out .entry))) (destinationOf dest) (message.itemRead Item.Model)) r (now (out .entry)) (now (out .exit)) (now (size .entry)) (now (size .exit)) ⌝ }
+{
+    export(dest, Request::ItemRead(Item::Model), b"", out, size)
+}
+
+#[no_mangle]
+pub extern "C" fn station_encode_tag_read(dest: u16, out: &mut [u8], size: &mut usize) -> u8
+    ensures { λ r. ⌜ Exports (encoding (length (now (out .entry))) (destinationOf dest) (message.itemRead Item.Tag)) r (now (out .entry)) (now (out .exit)) (now (size .entry)) (now (size .exit)) ⌝ }
+{
+    export(dest, Request::ItemRead(Item::Tag), b"", out, size)
+}
+
+#[no_mangle]
+pub extern "C" fn station_encode_former_tag_read(dest: u16, out: &mut [u8], size: &mut usize) -> u8
+    ensures { λ r. ⌜ Exports (encoding (length (now (out .entry))) (destinationOf dest) (message.itemRead Item.FormerTag)) r (now (out .entry)) (now (out .exit)) (now (size .entry)) (now (size .exit)) ⌝ }
+{
+    export(dest, Request::ItemRead(Item::FormerTag), b"", out, size)
+}
+
+#[no_mangle]
+pub extern "C" fn station_encode_tag_write(
+    dest: u16,
+    tag: &[u8],
+    out: &mut [u8],
+    size: &mut usize,
+) -> u8
+    ensures { λ r. ⌜ Exports (encoding (length (now (out .entry))) (destinationOf dest) (message.tagWrite (now (tag .entry)))) r (now (out .entry)) (now (out .exit)) (now (size .entry)) (now (size .exit)) ⌝ }
+{
+    tell(encode::encode_tag_write(destination(dest), tag, out), size)
+}
+
+// Any request, with its bytes beside it.
+fn export(dest: u16, request: Request, bytes: &[u8], out: &mut [u8], size: &mut usize) -> u8
+    requires { ⌜ Beside (requestCount request) (now bytes) ⌝ }
+    ensures { λ r. ⌜ Exports (encoding (length (now (out .entry))) (destinationOf dest) (requestOf request (now (bytes .entry)))) r (now (out .entry)) (now (out .exit)) (now (size .entry)) (now (size .exit)) ⌝ }
+{
+    tell(
+        encode::encode_request(destination(dest), request, bytes, out),
+        size,
+    )
+}
+
+// The destination of a number: 256 is ALL, any other an ID.
+fn destination(number: u16) -> Destination
+    ensures { λ r. ⌜ r ≡ destinationOf number ⌝ }
+{
+    if number == 256 {
+        return Destination::All;
+    }
+    Destination::Id(number)
+}
+
+// 0, and the length in its place; or the refusal, and the place untouched.
+fn tell(e: Encoded, size: &mut usize) -> u8
+    ensures { λ r. ⌜ ((wanted : Encoding) → encodedAs wanted e → Tells wanted r (now (size .entry)) (now (size .exit))) ⌝ }
+{
+    match e {
+        Encoded::Length(n) => {
+            *size = n;
+            return 0;
+        }
+        Encoded::Refused(refusal) => {
+            return refusal.number();
+        }
+    }
+}

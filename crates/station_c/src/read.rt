@@ -1,0 +1,233 @@
+// The reader for C: the result is the kind of the reply or the refusal; numbers and bytes go to lent places. Refused, nothing is written.
+ghost use mathlib.Core.List.{List, [], _∷_};
+ghost use mathlib.Core.Path.{_≡_};
+ghost use Prim.Native.Nat.{ℕ, _≤_};
+ghost use lib.ListN.{length, take};
+ghost use Rattle.wire.specs.Packet.{over};
+ghost use Rattle.messages.specs.View.{outcomeNumber, modeNumber, dateAnswerOf};
+ghost use Rattle.station_c.specs.Read.{readInto, Exports, Lists, listing, kindOf, itemKind, numbersOf, dateNumbers};
+use messages::message::Date;
+use messages::message::DateAnswer;
+use messages::message::Item;
+use messages::message::Outcome;
+use messages::message::Parameter;
+use messages::message::PowerMode;
+use messages::message::Reply;
+use parser::read::Answer;
+use station::read;
+use wire::digits;
+
+// A reply as its kind, its numbers with the sender's ID first, and how many bytes stand beside it.
+pub struct Listed {
+    pub kind: u8,
+    pub count: usize,
+    pub numbers: [u16; 9],
+    pub beside: u8,
+}
+
+#[no_mangle]
+pub extern "C" fn station_read(
+    packet: &[u8],
+    numbers: &mut [u16],
+    bytes: &mut [u8],
+    count: &mut usize,
+) -> u8
+    ensures { λ r. ⌜ Exports (readInto (length (now (numbers .entry))) (length (now (bytes .entry))) (now (packet .entry))) r (now (numbers .entry)) (now (numbers .exit)) (now (bytes .entry)) (now (bytes .exit)) (now (count .entry)) (now (count .exit)) ⌝ }
+{
+    if numbers.len() < 9 {
+        return 10;
+    }
+    if bytes.len() < 16 {
+        return 10;
+    }
+    let reading = read::read_packet(packet);
+    let answer = reading.answer;
+    match answer {
+        Answer::Refused(refusal) => {
+            return refusal.number();
+        }
+        Answer::Reply(reply) => {
+            let list = list_reply(reading.sender, reply);
+            let item = reading.bytes;
+            let all = list.numbers;
+            put_numbers(numbers, &all, list.count);
+            *count = put_item(bytes, &item, list.beside);
+            return list.kind;
+        }
+    }
+}
+
+// A reply from a sender as a list of numbers.
+fn list_reply(sender: u8, reply: Reply) -> Listed
+    ensures { λ r. ⌜ ((bytes : List ℕ) → Lists r sender reply bytes) × (r .count ≤ 9) ⌝ }
+{
+    let id = sender as u16;
+    match reply {
+        Reply::Null => {
+            return Listed {
+                kind: 101,
+                count: 1,
+                numbers: [id, 0, 0, 0, 0, 0, 0, 0, 0],
+                beside: 0,
+            };
+        }
+        Reply::Got(outcome, p) => {
+            return list_parameter(102, id, outcome, p);
+        }
+        Reply::Set(outcome, p) => {
+            return list_parameter(103, id, outcome, p);
+        }
+        Reply::PowerStatus(outcome, mode) => {
+            return list_status(104, id, outcome, mode_number(mode));
+        }
+        Reply::PowerControl(outcome, mode) => {
+            return list_status(105, id, outcome, mode);
+        }
+        Reply::Date(answer) => {
+            return list_date(id, answer);
+        }
+        Reply::Item(item, beside) => {
+            let kind = item_kind(item);
+            return Listed {
+                kind,
+                count: 1,
+                numbers: [id, 0, 0, 0, 0, 0, 0, 0, 0],
+                beside,
+            };
+        }
+        Reply::TagWritten(outcome, beside) => {
+            let status = outcome_number(outcome);
+            return Listed {
+                kind: 112,
+                count: 2,
+                numbers: [id, status, 0, 0, 0, 0, 0, 0, 0],
+                beside,
+            };
+        }
+    }
+}
+
+// Result, page, code, operation type, max, value.
+fn list_parameter(kind: u8, id: u16, outcome: Outcome, p: Parameter) -> Listed
+    ensures { λ r. ⌜ r ≡ listing kind (id ∷ outcomeNumber outcome ∷ p .page ∷ p .code ∷ p .operation ∷ p .largest ∷ p .value ∷ []) ⌝ }
+{
+    let result = outcome_number(outcome);
+    let page = p.page as u16;
+    let code = p.code as u16;
+    let operation = p.operation as u16;
+    Listed {
+        kind,
+        count: 7,
+        numbers: [id, result, page, code, operation, p.largest, p.value, 0, 0],
+        beside: 0,
+    }
+}
+
+// Status, mode.
+fn list_status(kind: u8, id: u16, outcome: Outcome, mode: u16) -> Listed
+    ensures { λ r. ⌜ r ≡ listing kind (id ∷ outcomeNumber outcome ∷ mode ∷ []) ⌝ }
+{
+    let status = outcome_number(outcome);
+    Listed {
+        kind,
+        count: 3,
+        numbers: [id, status, mode, 0, 0, 0, 0, 0, 0],
+        beside: 0,
+    }
+}
+
+// The seven fields of a date, behind a status where it was written.
+fn list_date(id: u16, answer: DateAnswer) -> Listed
+    ensures { λ r. ⌜ r ≡ listing (kindOf (dateAnswerOf answer)) (id ∷ numbersOf (dateAnswerOf answer)) ⌝ }
+{
+    match answer {
+        DateAnswer::Read(date) => {
+            let d = date_numbers(date);
+            return Listed {
+                kind: 106,
+                count: 8,
+                numbers: [id, d[0], d[1], d[2], d[3], d[4], d[5], d[6], 0],
+                beside: 0,
+            };
+        }
+        DateAnswer::Written(outcome, date) => {
+            let status = outcome_number(outcome);
+            let d = date_numbers(date);
+            return Listed {
+                kind: 107,
+                count: 9,
+                numbers: [id, status, d[0], d[1], d[2], d[3], d[4], d[5], d[6]],
+                beside: 0,
+            };
+        }
+    }
+}
+
+fn date_numbers(d: Date) -> [u16; 7]
+    ensures { λ r. ⌜ r ≡ dateNumbers d ⌝ }
+{
+    [
+        d.year as u16,
+        d.month as u16,
+        d.day as u16,
+        d.weekday as u16,
+        d.hour as u16,
+        d.minute as u16,
+        d.daylight as u16,
+    ]
+}
+
+fn item_kind(item: Item) -> u8
+    ensures { λ r. ⌜ r ≡ itemKind item ⌝ }
+{
+    match item {
+        Item::Serial => 108,
+        Item::Model => 109,
+        Item::Tag => 110,
+        Item::FormerTag => 111,
+    }
+}
+
+fn outcome_number(outcome: Outcome) -> u16
+    ensures { λ r. ⌜ r ≡ outcomeNumber outcome ⌝ }
+{
+    match outcome {
+        Outcome::Acknowledged => 0,
+        Outcome::Refused => 1,
+    }
+}
+
+fn mode_number(mode: PowerMode) -> u16
+    ensures { λ r. ⌜ r ≡ modeNumber mode ⌝ }
+{
+    match mode {
+        PowerMode::On => 1,
+        PowerMode::Sleep => 2,
+        PowerMode::Standby => 4,
+    }
+}
+
+// Writes the first numbers of a list at the start of a lent slice.
+fn put_numbers(out: &mut [u16], numbers: &[u16], count: usize)
+    requires { ⌜ (count ≤ length (now numbers)) × (length (now numbers) ≤ length (now out)) ⌝ }
+    ensures { λ _. ⌜ now (out .exit) ≡ over (take count (now (numbers .entry))) (now (out .entry)) ⌝ }
+{
+    let mut i: usize = 0;
+    while i < count {
+        out[i] = numbers[i];
+        i += 1;
+    }
+}
+
+// Writes as many bytes as are counted, and there, at the start of a lent slice; how many.
+fn put_item(out: &mut [u8], item: &[u8], count: u8) -> usize
+    requires { ⌜ length (now item) ≤ length (now out) ⌝ }
+    ensures { λ r. ⌜ (r ≡ length (take count (now (item .entry)))) × (now (out .exit) ≡ over (take count (now (item .entry))) (now (out .entry))) ⌝ }
+{
+    let mut n = count as usize;
+    if item.len() < n {
+        n = item.len();
+    }
+    digits::put_bytes(out, 0, &item[..n]);
+    n
+}
