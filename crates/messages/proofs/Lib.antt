@@ -2,3 +2,4 @@ pub mod WriteLaws
 pub mod RoundTrips
 pub mod Vectors
 pub mod SendLaws
+pub mod ParseLaws

@@ -3,19 +3,21 @@ use mathlib.Core.Path.{_≡_, refl, sym, ap, _∙_}
 use mathlib.Core.Bool.{Bool, true, false, cond, _||_, false≢true}
 use mathlib.Core.Logic.{_≢_, inl, inr}
 use mathlib.Core.List.{List, [], _∷_}
-use mathlib.Core.Option.{Option, none, some}
+use mathlib.Core.Option.{Option, none, some, Option·none-ne-some}
 use Prim.Native.Nat.{ℕ, zero, suc, _+_, _^_, _≤_, _<_}
 use native.Mathlib.Omega.{arith}
 use lib.Dec.{leb, eqb}
-use lib.ListN.{length}
-use borrow.Author.Tests.{leb-true, le-leb, eqb-true}
-use Rattle.bitfield.specs.Field.{getField}
-use Rattle.bitfield.proofs.Laws.{get-put-other}
-use Rattle.store.specs.Layout.{Field, settingFields, power, write, fits, fitsIn}
+use lib.ListN.{length, getD, List·getD-eq-default}
+use borrow.Author.Tests.{leb-true, leb-false, le-leb, eqb-true}
+use Rattle.bitfield.specs.Field.{bitOf, bit, getField}
+use Rattle.bitfield.proofs.Laws.{get-put-other, byte-put, length-put}
+use Rattle.plan.specs.Stores.{applied}
+use Rattle.wire.proofs.DigitLaws.{cond-by}
+use Rattle.store.specs.Layout.{Field, settingFields, power, read, write, fits, fitsIn, fieldStores}
 use Rattle.store.specs.declared.settings.Setting.{Setting}
-use Rattle.store.specs.Settings.{rowOf, fieldOf, settingAt, accepts, inputKept, inputShown, kept, shown, current}
+use Rattle.store.specs.Settings.{rowOf, fieldOf, isAt, settingAt, accepts, inputKept, inputShown, kept, shown, current}
 use Rattle.store.specs.Contents.{isOn}
-use Rattle.store.proofs.StoreLaws.{both, isAmong, isField, each-one, fits-below, read-write, read-write-other}
+use Rattle.store.proofs.StoreLaws.{both, isAmong, isField, each-one, fits-below, read-write, read-write-other, around-applied}
 
 setting-among : (s : Setting) → isAmong (fieldOf s) settingFields ≡ true
 setting-among Setting.Backlight = refl
@@ -46,6 +48,28 @@ setting-listed Setting.PipV = refl
 setting-listed Setting.AmbientLow = refl
 setting-listed Setting.AmbientHigh = refl
 setting-listed Setting.Tile = refl
+
+-- and what is found at a page and a code has them
+pub setting-told : (page code : ℕ) (s : Setting) → settingAt page code ≡ some s → (page ≡ rowOf s .page) × (code ≡ rowOf s .code)
+unfolding settingAt
+setting-told page code s =
+    tested Setting.Backlight _
+    (tested Setting.Input _
+    (tested Setting.Balance _
+    (tested Setting.PipH _
+    (tested Setting.PipV _
+    (tested Setting.AmbientLow _
+    (tested Setting.AmbientHigh _
+    (tested Setting.Tile none (λ e. absurd (Option·none-ne-some s e)))))))))
+  where
+    tested : (t : Setting) (o : Option Setting) → (o ≡ some s → (page ≡ rowOf s .page) × (code ≡ rowOf s .code))
+        → cond (isAt page code t) (some t) o ≡ some s → (page ≡ rowOf s .page) × (code ≡ rowOf s .code)
+    tested t o f =
+        cond-by (λ (o : Option Setting). o ≡ some s → (page ≡ rowOf s .page) × (code ≡ rowOf s .code)) (isAt page code t) (some t) o
+        (λ h e. let q : t ≡ s = cc in
+        let p = both (eqb page (rowOf t .page)) (eqb code (rowOf t .code)) h in
+        (eqb-true page (rowOf s .page) (rw (← q) (p .0)), eqb-true code (rowOf s .code) (rw (← q) (p .1))))
+        (λ _. f)
 
 -- ---- what is kept of an accepted value
 
@@ -107,6 +131,24 @@ set-moves m s v l h = ap (shown s) (read-write m (fieldOf s) (kept s v) (setting
 pub set-shows : (m : List ℕ) (s : Setting) (v : ℕ) → 12 ≤ length m → accepts s v ≡ true
     → current (write m (fieldOf s) (kept s v)) s ≡ settled s v
 set-shows m s v l h = set-moves m s v l h ∙ shown-kept s v h
+
+-- a store that says on has its power bit, and all settings stand before that
+on-length : (m : List ℕ) → isOn m ≡ true → 7 ≤ length m
+unfolding isOn getField bit bitOf
+on-length m h = go (leb 7 (length m)) refl
+  where
+    go : (b : Bool) → leb 7 (length m) ≡ b → 7 ≤ length m
+    go true t = leb-true 7 (length m) t
+    go false f =
+        let none : getD m 6 0 ≡ 0 = List·getD-eq-default m 0 (omega (arith, leb-false 7 (length m) f)) in
+        absurd (omega (arith, eqb-true (read m power) 1 h, none))
+
+pub set-applied : (m : List ℕ) (s : Setting) (k : ℕ) → isOn m ≡ true → applied (fieldStores m (fieldOf s) k) m ≡ write m (fieldOf s) k
+unfolding fieldStores
+set-applied m s k on =
+    let at = fieldOf s .at in
+    let width = fieldOf s .width in
+    around-applied at width m (write m (fieldOf s) k) (omega (arith, setting-before s, on-length m on)) (length-put m at width k) (byte-put m at width k)
 
 -- the setting whose field begins at a bit
 abbrev beginning : ℕ → List Setting → Option Setting

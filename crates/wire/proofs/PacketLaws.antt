@@ -86,7 +86,7 @@ module _ (dest source kind : ℕ) (text : List ℕ) where
   unfolding packet
   packet-stx = refl
 
-  packet-limits : 2 ≤ length text → length text ≤ 62 → isLength (packet dest source kind text) ≡ true
+  pub packet-limits : 2 ≤ length text → length text ≤ 62 → isLength (packet dest source kind text) ≡ true
   unfolding isLength
   packet-limits least most = rw (packet-two most, le-leb 4 (length text + 2) (omega arith), le-leb (length text + 2) 64 (omega arith))
 

@@ -1,0 +1,103 @@
+-- What is found in a text is in range: two digits give a byte, four give 16 bits, and at most 16 bytes are read.
+use Prim.Native.Nat.{ℕ}
+use mathlib.Core.Bool.{Bool, cond}
+use mathlib.Core.List.{List}
+use mathlib.Core.Option.{Option, none, some, bind, Option·map}
+use mathlib.Core.Path.{_≡_, refl}
+use lib.Dec.{eqb}
+use lib.ListN.{length, drop}
+use Rattle.wire.specs.Digits.{twoAt, fourAt, bytesOf}
+use Rattle.wire.proofs.DigitLaws.{cond-by, two-below, four-below, bytes-few, bytes-are-bytes}
+use Rattle.messages.specs.Message.{IsDate, IsRequest}
+use Rattle.messages.specs.Message.Request.{dateWrite, tagWrite}
+use Rattle.messages.specs.Text.{typeA, typeC, typeE, powerReadName, powerControlName, dateReadName, dateWriteName, itemReadName, tagWriteName}
+use Rattle.messages.specs.Read.{beginsWith, isName, dateIn, getIn, setIn, powerControlIn, commandIn, requestIn}
+use Rattle.messages.specs.declared.message.Item.{Item}
+
+-- what holds of the value that was found, if one was
+abbrev pub Found : {A : Type 0} → (A → Type 0) → Option A → Type 0
+Found P none = Unit {0}
+Found P (some a) = P a
+
+module _ {A : Type 0} (P : A → Type 0) where
+  bind-found : {B : Type 0} (o : Option B) (f : B → Option A) → ((b : B) → o ≡ some b → Found P (f b)) → Found P (bind o f)
+  unfolding bind
+  bind-found none f h = tt
+  bind-found (some b) f h = h b refl
+
+  map-found : {B : Type 0} (f : B → A) (o : Option B) → ((b : B) → o ≡ some b → P (f b)) → Found P (Option·map f o)
+  map-found f none h = tt
+  map-found f (some b) h = h b refl
+
+  test-found : (t : Bool) (x y : Option A) → Found P x → Found P y → Found P (cond t x y)
+  test-found t x y p q = cond-by (Found P) t x y (λ _. p) (λ _. q)
+
+date-found : (t : List ℕ) → Found IsDate (dateIn t)
+unfolding dateIn
+date-found t =
+    test-found IsDate (eqb (length t) 14) _ _
+    (bind-found IsDate (twoAt t 0) _ λ yy a.
+    bind-found IsDate (twoAt t 2) _ λ mm b.
+    bind-found IsDate (twoAt t 4) _ λ dd c.
+    bind-found IsDate (twoAt t 6) _ λ ww d.
+    bind-found IsDate (twoAt t 8) _ λ hh e.
+    bind-found IsDate (twoAt t 10) _ λ mn f.
+    bind-found IsDate (twoAt t 12) _ λ ds g.
+    record {
+      year = two-below t 0 a;
+      month = two-below t 2 b;
+      day = two-below t 4 c;
+      weekday = two-below t 6 d;
+      hour = two-below t 8 e;
+      minute = two-below t 10 f;
+      daylight = two-below t 12 g;
+    })
+    tt
+
+-- ---- requests
+
+get-found : (t : List ℕ) → Found IsRequest (getIn t)
+unfolding getIn
+get-found t =
+    test-found IsRequest (eqb (length t) 4) _ _
+    (bind-found IsRequest (twoAt t 0) _ λ page a.
+    bind-found IsRequest (twoAt t 2) _ λ code b.
+    (two-below t 0 a, two-below t 2 b))
+    tt
+
+set-found : (t : List ℕ) → Found IsRequest (setIn t)
+unfolding setIn
+set-found t =
+    test-found IsRequest (eqb (length t) 8) _ _
+    (bind-found IsRequest (twoAt t 0) _ λ page a.
+    bind-found IsRequest (twoAt t 2) _ λ code b.
+    bind-found IsRequest (fourAt t 4) _ λ value c.
+    (two-below t 0 a, two-below t 2 b, four-below t 4 c))
+    tt
+
+power-found : (t : List ℕ) → Found IsRequest (powerControlIn t)
+unfolding powerControlIn
+power-found t = test-found IsRequest (eqb (length t) 4) _ _ (bind-found IsRequest (fourAt t 0) _ λ mode a. four-below t 0 a) tt
+
+command-found : (t : List ℕ) → Found IsRequest (commandIn t)
+unfolding commandIn
+command-found t =
+    test-found IsRequest (isName powerReadName t) _ _ tt
+    (test-found IsRequest (isName dateReadName t) _ _ tt
+    (test-found IsRequest (isName (itemReadName Item.Serial) t) _ _ tt
+    (test-found IsRequest (isName (itemReadName Item.Model) t) _ _ tt
+    (test-found IsRequest (isName (itemReadName Item.Tag) t) _ _ tt
+    (test-found IsRequest (isName (itemReadName Item.FormerTag) t) _ _ tt
+    (test-found IsRequest (beginsWith powerControlName t) _ _ (power-found (drop 6 t))
+    (test-found IsRequest (beginsWith dateWriteName t) _ _
+    (map-found IsRequest dateWrite (dateIn (drop 4 t)) (λ d e. rw e at (date-found (drop 4 t)))) tt)))))))
+
+pub request-fits : (kind : ℕ) (t : List ℕ) → Found IsRequest (requestIn kind t)
+unfolding requestIn
+request-fits kind t =
+    test-found IsRequest (eqb kind typeC) _ _ (get-found t)
+    (test-found IsRequest (eqb kind typeE) _ _ (set-found t)
+    (test-found IsRequest (eqb kind typeA) _ _
+    (test-found IsRequest (beginsWith tagWriteName t) _ _
+    (map-found IsRequest tagWrite (bytesOf (drop 4 t)) (λ s e. record { few = bytes-few (drop 4 t) e; bytes = bytes-are-bytes (drop 4 t) e }))
+    (command-found t)) tt))
