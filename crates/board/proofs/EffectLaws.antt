@@ -1,23 +1,21 @@
 -- What a good packet stores, request by request, by the store's laws: few bytes, within the store, not the mark, and every field stays in range.
 use mathlib.Core.Path.{_≡_, refl, _∙_, subst}
-use mathlib.Core.Bool.{Bool, true, cond, _&&_}
+use mathlib.Core.Bool.{true, _&&_}
 use mathlib.Core.List.{List, [], _∷_}
 use mathlib.Core.Logic.{inl}
-use mathlib.Core.Option.{Option, none, some, bind, Option·map}
+use mathlib.Core.Option.{Option, none, some}
 use Prim.Native.Nat.{ℕ, _≤_}
 use native.Mathlib.Omega.{arith}
 use lib.Dec.{eqb}
-use lib.ListN.{length, getD, drop}
+use lib.ListN.{length, getD}
 use Rattle.plan.specs.Stores.{Entry, applied, Within, Ready}
 use Rattle.plan.proofs.Laws.{applied-length}
-use Rattle.wire.specs.Digits.{twoAt, fourAt, bytesOf}
-use Rattle.wire.proofs.DigitLaws.{cond-by, bytes-few}
-use Rattle.messages.specs.Message.{Request, Reply}
+use Rattle.wire.proofs.DigitLaws.{cond-by}
+use Rattle.messages.specs.Message.{Request, Reply, IsRequest}
 use Rattle.messages.specs.Message.Request.{getParameter, setParameter, powerRead, powerControl, dateRead, dateWrite, itemRead, tagWrite}
-use Rattle.messages.specs.Text.{typeA, typeC, typeE, powerReadName, powerControlName, dateReadName, dateWriteName, itemReadName, tagWriteName}
-use Rattle.messages.specs.Read.{beginsWith, isName, dateIn, getIn, setIn, powerControlIn, commandIn, requestIn}
+use Rattle.messages.specs.Read.{requestIn}
+use Rattle.messages.proofs.ParseLaws.{Found, request-fits}
 use Rattle.messages.specs.declared.message.Date.{Date}
-use Rattle.messages.specs.declared.message.Item.{Item}
 use Rattle.store.specs.Layout.{Field, fits, power, fieldStores, fieldsInRange}
 use Rattle.store.specs.Settings.{fieldOf, settingAt, accepts, kept}
 use Rattle.store.specs.Contents.{isOn, isStorable, isAccepted, dateStores, tagStores}
@@ -58,51 +56,22 @@ abbrev pub Few : Option Request → Type 0
 Few none = Unit {0}
 Few (some r) = FewIn r
 
-bind-few : {A : Type 0} (o : Option A) (f : A → Option Request) → ((a : A) → Few (f a)) → Few (bind o f)
-unfolding bind
-bind-few none f h = tt
-bind-few (some a) f h = h a
+request-few-in : (r : Request) → IsRequest r → FewIn r
+request-few-in (getParameter page code) h = tt
+request-few-in (setParameter page code value) h = tt
+request-few-in powerRead h = tt
+request-few-in (powerControl mode) h = tt
+request-few-in dateRead h = tt
+request-few-in (dateWrite d) h = tt
+request-few-in (itemRead x) h = tt
+request-few-in (tagWrite tag) h = h .few
 
-map-few : {A : Type 0} (f : A → Request) (o : Option A) → ((a : A) → o ≡ some a → FewIn (f a)) → Few (Option·map f o)
-map-few f none h = tt
-map-few f (some a) h = h a refl
-
-test-few : (t : Bool) (x y : Option Request) → Few x → Few y → Few (cond t x y)
-test-few t x y p q = cond-by Few t x y (λ _. p) (λ _. q)
-
-get-few : (t : List ℕ) → Few (getIn t)
-unfolding getIn
-get-few t = test-few (eqb (length t) 4) _ _ (bind-few (twoAt t 0) _ (λ page. bind-few (twoAt t 2) _ (λ code. tt))) tt
-
-set-few : (t : List ℕ) → Few (setIn t)
-unfolding setIn
-set-few t =
-    test-few (eqb (length t) 8) _ _
-    (bind-few (twoAt t 0) _ (λ page. bind-few (twoAt t 2) _ (λ code. bind-few (fourAt t 4) _ (λ value. tt)))) tt
-
-power-few : (t : List ℕ) → Few (powerControlIn t)
-unfolding powerControlIn
-power-few t = test-few (eqb (length t) 4) _ _ (bind-few (fourAt t 0) _ (λ mode. tt)) tt
-
-command-few : (t : List ℕ) → Few (commandIn t)
-unfolding commandIn
-command-few t =
-    test-few (isName powerReadName t) _ _ tt
-    (test-few (isName dateReadName t) _ _ tt
-    (test-few (isName (itemReadName Item.Serial) t) _ _ tt
-    (test-few (isName (itemReadName Item.Model) t) _ _ tt
-    (test-few (isName (itemReadName Item.Tag) t) _ _ tt
-    (test-few (isName (itemReadName Item.FormerTag) t) _ _ tt
-    (test-few (beginsWith powerControlName t) _ _ (power-few (drop 6 t))
-    (test-few (beginsWith dateWriteName t) _ _ (map-few dateWrite (dateIn (drop 4 t)) (λ d e. tt)) tt)))))))
+option-few : (q : Option Request) → Found IsRequest q → Few q
+option-few none h = tt
+option-few (some r) h = request-few-in r h
 
 pub request-few : (kind : ℕ) (t : List ℕ) → Few (requestIn kind t)
-unfolding requestIn
-request-few kind t =
-    test-few (eqb kind typeC) _ _ (get-few t)
-    (test-few (eqb kind typeE) _ _ (set-few t)
-    (test-few (eqb kind typeA) _ _
-    (test-few (beginsWith tagWriteName t) _ _ (map-few tagWrite (bytesOf (drop 4 t)) (λ tag e. bytes-few (drop 4 t) e)) (command-few t)) tt))
+request-few kind t = option-few (requestIn kind t) (request-fits kind t)
 
 -- ---- what the stores of a request keep
 

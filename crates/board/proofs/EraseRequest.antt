@@ -1,7 +1,7 @@
 -- The erase request, fed to any sound board with no erase pending, on or in standby, begins an erase with its last byte.
 use mathlib.Core.Path.{_≡_, refl, ap, sym, _∙_}
 use mathlib.Core.Bool.{true}
-use mathlib.Core.List.{List, [], _∷_, _++_}
+use mathlib.Core.List.{List, [], _∷_, _++_, map}
 use mathlib.Core.Logic.{_⊎_, ⊎-elim}
 use Prim.Native.Nat.{ℕ, _+_, _≤_, _<_}
 use native.Mathlib.Omega.{arith}
@@ -19,11 +19,12 @@ use Rattle.erase.specs.Board.{Identity, Answer, waiting, begun, idle}
 use Rattle.erase.specs.Calls.{isSound}
 use Rattle.erase.specs.Lists.{call, answered, seen, run}
 use Rattle.actions.specs.Act.{begins, effect, effectOf, setEffect}
-use Rattle.board.specs.Calls.{gap, does, holding, BoardState, Addressee, own, all, addressee, toOwn, toAll, onPacketTo, onPacket, thisBoard}
+use Rattle.board.specs.Calls.{byte, gap, does, holding, BoardState, Addressee, own, all, addressee, toOwn, toAll, onPacketTo, onPacket, thisBoard}
 use Rattle.board.specs.Demand3.{Events, answersIn, eraseRequest}
+use Rattle.board.specs.Fed.{fed}
 use Rattle.board.proofs.BoardLaws.{named-told, Resting, resting, resting-sound, holds-others, nothing-proper}
 use Rattle.board.proofs.Numbers.{eraseText, erasePacket, request-bytes}
-use Rattle.board.proofs.PacketFed.{call-done, fed, packet-answered}
+use Rattle.board.proofs.PacketFed.{call-done, packet-answered, fed-alike}
 
 -- on or in standby, it begins an erase
 erase-begins : (i : Identity) (m : List ℕ) (dest : ℕ) → effect i m (requestIn (getD (erasePacket dest) 4 0) (textOf (erasePacket dest))) ≡ begins
@@ -58,18 +59,19 @@ unfolding run seen does
 gap-seen s m lent es h q = rw (call-done gap s m lent refl h q)
 
 request-answered : (i : Identity) (m lent : List ℕ) (dest : ℕ) → Resting i [] m → 64 ≤ length lent → (dest ≡ 0x40 + i .id) ⊎ (dest ≡ 0x2A)
-    → answersIn (run thisBoard i (holding i []) m (fed lent (eraseRequest dest))) ≡ replicate 18 waiting ++ (begun ∷ [])
+    → answersIn (run thisBoard i (holding i []) m (fed (λ _. lent) 0 (eraseRequest dest))) ≡ replicate 18 waiting ++ (begun ∷ [])
 unfolding erasePacket eraseText requestText
 request-answered i m lent dest r room to =
     let small : dest < 256 = ⊎-elim (λ e. omega (arith, named-told i (r .named) .most)) (λ e. omega arith) to in
-    ap (λ (p : List ℕ). answersIn (run thisBoard i (holding i []) m (fed lent p))) (sym (request-bytes dest small))
-    ∙ packet-answered (holding i []) m lent dest typeE eraseText (resting-sound r) refl refl room refl (omega arith) (omega arith)
+    ap (λ (p : List ℕ). answersIn (run thisBoard i (holding i []) m (fed (λ _. lent) 0 p))) (sym (request-bytes dest small))
+    ∙ packet-answered (holding i []) m (λ _. lent) dest typeE eraseText (resting-sound r) refl refl (λ _. room) refl (omega arith) (omega arith)
     ∙ ap (λ (a : Answer ℕ). replicate 18 waiting ++ (a ∷ [])) (packet-begins i m lent dest to)
 
 pub acceptable : (s : BoardState) (m lent : List ℕ) (dest : ℕ) → isSound thisBoard s m ≡ true → s .erase ≡ idle → 64 ≤ length lent
     → (dest ≡ 0x40 + s .ident .id) ⊎ (dest ≡ 0x2A)
-    → answersIn (run thisBoard (s .ident) s m (call gap lent ∷ fed lent (eraseRequest dest))) ≡ replicate 19 waiting ++ (begun ∷ [])
+    → answersIn (run thisBoard (s .ident) s m (call gap lent ∷ map (λ (b : ℕ). call (byte b) lent) (eraseRequest dest))) ≡ replicate 19 waiting ++ (begun ∷ [])
 unfolding answersIn
 acceptable s m lent dest h q room to =
-    ap answersIn (gap-seen s m lent (fed lent (eraseRequest dest)) h q)
+    ap (λ (es : Events). answersIn (run thisBoard (s .ident) s m (call gap lent ∷ es))) (sym (fed-alike lent 0 (eraseRequest dest)))
+    ∙ ap answersIn (gap-seen s m lent (fed (λ _. lent) 0 (eraseRequest dest)) h q)
     ∙ ap (λ (l : List (Answer ℕ)). waiting ∷ l) (request-answered (s .ident) m lent dest (holds-others [] nothing-proper (resting s m q h)) room to)

@@ -80,7 +80,7 @@ text-few m f at e most r =
     rw length-take (omega (arith, min-le-left (read m f) (length (drop at m))))
 
 module _ (i : Identity) (m : List ℕ) (n : Named i) (ranged : fieldsInRange m ≡ true) where
-  item-few : (x : Item) → length (itemOf i m x) ≤ 16
+  pub item-few : (x : Item) → length (itemOf i m x) ≤ 16
   unfolding tagOf formerTagOf
   item-few Item.Serial = n .serial
   item-few Item.Model = n .model

@@ -42,6 +42,16 @@ answerOf Answer.Ended = erase.ended
 answerOf (Answer.Refused r) = erase.refused (numberOf r)
 answerOf (Answer.Reply n) = erase.reply n
 
+-- the number of an answer's kind, where it is told as a number
+abbrev pub kindOf : erase.Answer ℕ → ℕ
+kindOf erase.waiting = 0
+kindOf erase.silent = 1
+kindOf erase.begun = 2
+kindOf erase.more = 3
+kindOf erase.ended = 4
+kindOf (erase.refused n) = 5
+kindOf (erase.reply n) = 6
+
 -- what a call leaves: answer, board, store and lent buffer
 pub record Result : Type 0 where
   pub answer : erase.Answer ℕ

@@ -8,7 +8,7 @@ ghost use Rattle.erase.specs.Calls.{isSound, onCall, onStep, onStart};
 ghost use Rattle.actions.specs.View.{seenText};
 ghost use Rattle.board.specs.Calls as calls;
 ghost use Rattle.board.specs.Calls.{thisBoard};
-ghost use Rattle.board.specs.View.{stateOf, answerOf, gave, result, started, noBoard, givenIdentity, Refusing, freshState, leftState, Accepting, Acting};
+ghost use Rattle.board.specs.View.{stateOf, answerOf, kindOf, gave, result, started, noBoard, givenIdentity, Refusing, freshState, leftState, Accepting, Acting};
 use crate::packet;
 use crate::packet::Acted;
 use crate::sound;
@@ -44,6 +44,23 @@ pub enum Answer {
     Ended,
     Refused(Refusal),
     Reply(usize),
+}
+
+impl Answer {
+    // The number of its kind.
+    pub fn kind(self) -> u8
+        ensures { λ r. ⌜ r ≡ kindOf (answerOf self) ⌝ }
+    {
+        match self {
+            Answer::Waiting => 0,
+            Answer::Silent => 1,
+            Answer::Begun => 2,
+            Answer::More => 3,
+            Answer::Ended => 4,
+            Answer::Refused(_) => 5,
+            Answer::Reply(_) => 6,
+        }
+    }
 }
 
 // The next board, with the answer.
