@@ -1,0 +1,8 @@
+-- Demand 2, put together from requests, replies and Sets.
+use Rattle.exchange.specs.Demand2.{Demand2}
+use Rattle.exchange.proofs.Requests.{requests}
+use Rattle.exchange.proofs.Replies.{replies-read, erase-read}
+use Rattle.exchange.proofs.Sets.{moves, others}
+
+pub demand2 : Demand2
+demand2 = record { requests = requests; replies-read = replies-read; erase-read = erase-read; moves = moves; others = others }

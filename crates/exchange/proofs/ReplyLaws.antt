@@ -1,0 +1,226 @@
+-- Every reply of a board whose numbers are bytes has a text, and the station reads its packet as that reply of that board.
+use mathlib.Core.Path.{_≡_, refl, sym, _∙_, subst}
+use mathlib.Core.Bool.{true, _&&_}
+use mathlib.Core.List.{List, [], _∷_}
+use mathlib.Core.Option.{Option, none, some}
+use Prim.Native.Nat.{ℕ, zero, suc, _+_, _-_, _≤_, _<_}
+use native.Mathlib.Omega.{arith}
+use lib.Dec.{leb, eqb}
+use lib.ListN.{length, getD, take, drop}
+use lib.Seq.{getD-drop, drop-append-seam}
+use borrow.Author.Tests.{leb-true, le-leb, le-ltb, eq-eqb}
+use Rattle.plan.specs.Stores.{Entry}
+use Rattle.wire.specs.Digits.{Bytes}
+use Rattle.wire.specs.Packet.{addressOf, zeroByte, packet, replyPacket, over, size}
+use Rattle.wire.proofs.DigitLaws.{cond-by}
+use Rattle.wire.proofs.PacketLaws.{over-take, packet-length, size-packet, text-packet, packet-limits, packet-good}
+use Rattle.messages.specs.Message.{Request, Reply, IsRequest, IsReply, isPowerMode}
+use Rattle.messages.specs.Message.Request.{getParameter, setParameter, powerRead, powerControl, dateRead, dateWrite, itemRead, tagWrite}
+use Rattle.messages.specs.Message.Reply.{null, getReply, setReply, powerReadReply, powerControlReply, dateReadReply, dateWriteReply, itemReply, tagWriteReply}
+use Rattle.messages.specs.Text.{replyType, replyText}
+use Rattle.messages.specs.Read.{requestIn}
+use Rattle.messages.specs.declared.message.Item.{Item}
+use Rattle.messages.proofs.ParseLaws.{Found, request-fits}
+use Rattle.messages.proofs.RoundTrips.{reply-back, reply-length}
+use Rattle.store.specs.Layout.{Field, fields, read, year, month, day, weekday, hour, minute, tagLength, formerLength, fieldsInRange}
+use Rattle.store.specs.Settings.{rowOf, fieldOf, settingAt, accepts, shown, current}
+use Rattle.store.specs.Contents.{isOn, dateOf, isAccepted, tagOf, formerTagOf}
+use Rattle.store.specs.declared.settings.Setting.{Setting}
+use Rattle.store.proofs.StoreLaws.{isField, each-one}
+use Rattle.store.proofs.SettingLaws.{setting-field}
+use Rattle.store.proofs.FieldLaws.{get-byte}
+use Rattle.erase.specs.Board.{Identity}
+use Rattle.actions.specs.Act.{
+  Effect,
+  replies,
+  begins,
+  isErase,
+  getListed,
+  getEffect,
+  setListed,
+  setEffect,
+  powerReadEffect,
+  powerControlEffect,
+  dateWriteEffect,
+  itemOf,
+  effectOf,
+  effect,
+}
+use Rattle.board.specs.Calls.{replyWith, replyFrom}
+use Rattle.board.proofs.BoardLaws.{Named}
+use Rattle.board.proofs.ReplyLaws.{item-few, reply-size}
+use Rattle.station.specs.Read.{isReplyType, isReplyHeader, isWholeLength, readPacket}
+use Rattle.station.specs.Read as station
+use Rattle.exchange.specs.Demand2.{InBytes, IsRead}
+
+-- ---- what a store shows
+
+-- no field is wider than a byte
+read-below : (m : List ℕ) (f : Field) → isField f ≡ true → read m f < 256
+read-below m f e = get-byte m (f .at) (f .width) (leb-true (f .width) 8 (each-one (λ f. leb (f .width) 8) fields f refl e)) refl
+
+shown-below : (s : Setting) (k : ℕ) → k < 256 → shown s k < 65536
+shown-below Setting.Backlight k h = omega arith
+shown-below Setting.Input k h =
+    cond-by (λ (v : ℕ). v < 65536) (eqb k 0) _ _ (λ _. omega arith)
+    (λ _. cond-by (λ (v : ℕ). v < 65536) (eqb k 1) _ _ (λ _. omega arith) (λ _. omega arith))
+shown-below Setting.Balance k h = omega arith
+shown-below Setting.PipH k h = omega arith
+shown-below Setting.PipV k h = omega arith
+shown-below Setting.AmbientLow k h = omega arith
+shown-below Setting.AmbientHigh k h = omega arith
+shown-below Setting.Tile k h = omega arith
+
+current-below : (m : List ℕ) (s : Setting) → current m s < 65536
+unfolding current
+current-below m s = shown-below s (read m (fieldOf s)) (read-below m (fieldOf s) (setting-field s))
+
+largest-below : (s : Setting) → rowOf s .largest < 65536
+largest-below Setting.Backlight = omega arith
+largest-below Setting.Input = omega arith
+largest-below Setting.Balance = omega arith
+largest-below Setting.PipH = omega arith
+largest-below Setting.PipV = omega arith
+largest-below Setting.AmbientLow = omega arith
+largest-below Setting.AmbientHigh = omega arith
+largest-below Setting.Tile = omega arith
+
+-- a part of bytes is bytes
+bytes-take : (n : ℕ) (s : List ℕ) → Bytes s → Bytes (take n s)
+bytes-take zero s h i = omega arith
+bytes-take (suc n) [] h i = h i
+bytes-take (suc n) (x ∷ s) h zero = h zero
+bytes-take (suc n) (x ∷ s) h (suc i) = bytes-take n s (λ j. h (suc j)) i
+
+bytes-part : (n at : ℕ) (s : List ℕ) → Bytes s → Bytes (take n (drop at s))
+bytes-part n at s h = bytes-take n (drop at s) (λ i. rw (getD-drop at s i 0) (h (at + i)))
+
+-- ---- every reply has a text
+
+abbrev Sayable : Effect → Type 0
+Sayable (replies r es) = IsReply r
+Sayable begins = Unit {0}
+
+module _ (i : Identity) (m : List ℕ) (b : InBytes i m) (n : Named i) (ranged : fieldsInRange m ≡ true) where
+  item-bytes : (x : Item) → Bytes (itemOf i m x)
+  unfolding tagOf formerTagOf
+  item-bytes Item.Serial = b .serial
+  item-bytes Item.Model = b .model
+  item-bytes Item.Tag = bytes-part (read m tagLength) 12 m (b .store)
+  item-bytes Item.FormerTag = bytes-part (read m formerLength) 28 m (b .store)
+
+  get-sayable : (page code : ℕ) → page < 256 → code < 256 → (s : Option Setting) → IsReply (getListed m page code s)
+  get-sayable page code p c none =
+      record { result = omega arith; page = p; code = c; operation = omega arith; largest = omega arith; value = omega arith }
+  get-sayable page code p c (some s) =
+      record { result = omega arith; page = p; code = c; operation = omega arith; largest = largest-below s; value = current-below m s }
+
+  set-sayable : (page code v : ℕ) → page < 256 → code < 256 → v < 65536 → (s : Option Setting) → Sayable (setListed m page code v s)
+  set-sayable page code v p c w none =
+      record { result = omega arith; page = p; code = c; operation = omega arith; largest = omega arith; value = w }
+  set-sayable page code v p c w (some s) =
+      cond-by Sayable (isOn m && accepts s v) _ _
+      (λ _. record { result = omega arith; page = p; code = c; operation = omega arith; largest = largest-below s; value = w })
+      (λ _. record { result = omega arith; page = p; code = c; operation = omega arith; largest = largest-below s; value = w })
+
+  request-sayable : (r : Request) → IsRequest r → Sayable (effectOf i m r)
+  unfolding effectOf getEffect setEffect powerReadEffect powerControlEffect dateWriteEffect dateOf
+  request-sayable (getParameter page code) h =
+      cond-by IsReply (isErase page code) _ _
+      (λ _. record { result = omega arith; page = h .0; code = h .1; operation = omega arith; largest = omega arith; value = omega arith })
+      (λ _. get-sayable page code (h .0) (h .1) (settingAt page code))
+  request-sayable (setParameter page code v) h =
+      cond-by Sayable (isErase page code) _ _
+      (λ _. cond-by Sayable (eqb v 1) _ _ (λ _. tt)
+      (λ _. record { result = omega arith; page = h .0; code = h .1; operation = omega arith; largest = omega arith; value = h .2 }))
+      (λ _. set-sayable page code v (h .0) (h .1) (h .2) (settingAt page code))
+  request-sayable powerRead h = (omega arith, cond-by (λ (mode : ℕ). isPowerMode mode ≡ true) (isOn m) 1 4 (λ _. refl) (λ _. refl))
+  request-sayable (powerControl mode) h =
+      cond-by Sayable (eqb mode 1) _ _ (λ _. (omega arith, h))
+      (λ _. cond-by Sayable (eqb mode 4) _ _ (λ _. (omega arith, h)) (λ _. (omega arith, h)))
+  request-sayable dateRead h =
+      record {
+        year = read-below m year refl;
+        month = read-below m month refl;
+        day = read-below m day refl;
+        weekday = read-below m weekday refl;
+        hour = read-below m hour refl;
+        minute = read-below m minute refl;
+        daylight = omega arith;
+      }
+  request-sayable (dateWrite d) h = cond-by Sayable (isAccepted d) _ _ (λ _. (omega arith, h)) (λ _. (omega arith, h))
+  request-sayable (itemRead x) h = record { few = item-few i m n ranged x; bytes = item-bytes x }
+  request-sayable (tagWrite tag) h = (omega arith, h)
+
+  option-sayable : (q : Option Request) → Found IsRequest q → Sayable (effect i m q)
+  option-sayable none h = tt
+  option-sayable (some r) h = request-sayable r h
+
+  pub effect-sayable : (kind : ℕ) (text : List ℕ) {r : Reply} {es : List Entry} → effect i m (requestIn kind text) ≡ replies r es → IsReply r
+  effect-sayable kind text is = subst Sayable is (option-sayable (requestIn kind text) (request-fits kind text))
+
+-- ---- a reply's packet
+
+reply-type : (r : Reply) → isReplyType (replyType r) ≡ true
+unfolding replyType
+reply-type null = refl
+reply-type (getReply result page code operation largest value) = refl
+reply-type (setReply result page code operation largest value) = refl
+reply-type (powerReadReply status mode) = refl
+reply-type (powerControlReply status mode) = refl
+reply-type (dateReadReply d) = refl
+reply-type (dateWriteReply status d) = refl
+reply-type (itemReply i bytes) = refl
+reply-type (tagWriteReply status tag) = refl
+
+module _ (i : Identity) (n : Named i) (kind : ℕ) (text : List ℕ) where
+  abbrev sent : List ℕ
+  sent = replyPacket (addressOf (i .id)) kind text
+
+  sent-header : isReplyType kind ≡ true → isReplyHeader sent ≡ true
+  unfolding isReplyHeader packet
+  sent-header k = rw (le-leb 0x41 (0x40 + i .id) (omega (arith, n .least)), le-leb (0x40 + i .id) 0x48 (omega (arith, n .most)), k)
+
+  sent-source : getD sent 3 0 - 0x40 ≡ i .id
+  unfolding packet
+  sent-source = omega arith
+
+  sent-kind : getD sent 4 0 ≡ kind
+  unfolding packet
+  sent-kind = refl
+
+  sent-whole : 2 ≤ length text → length text ≤ 62 → isWholeLength sent ≡ true
+  unfolding isWholeLength
+  sent-whole least most =
+      let a = addressOf (i .id) in
+      rw (packet-limits zeroByte a kind text least most, eq-eqb (size sent) (length sent) (size-packet zeroByte a kind text most ∙ sym (packet-length zeroByte a kind text)))
+
+module _ (i : Identity) (n : Named i) (r : Reply) (h : IsReply r) where
+  reply-read : readPacket (replyFrom i r) ≡ station.reply (i .id) r
+  unfolding readPacket replyWith
+  reply-read =
+      let a = addressOf (i .id) in
+      let kind = replyType r in
+      let text = replyText r in
+      let l = reply-length r h in
+      rw (
+        le-ltb (length (replyPacket a kind text)) 13 (omega (arith, packet-length zeroByte a kind text)),
+        sent-header i n kind text (reply-type r),
+        sent-whole i n kind text (l .0) (l .1),
+        packet-good zeroByte a kind text (l .1),
+        sent-source i n kind text,
+        sent-kind i n kind text,
+        text-packet zeroByte a kind text (l .1),
+        reply-back r h,
+      )
+
+  pub reply-is-read : (lent : List ℕ) → IsRead (i .id) (length (replyFrom i r)) r lent (over (replyFrom i r) lent)
+  unfolding over
+  reply-is-read lent =
+      let p = replyFrom i r in
+      let first = over-take p lent (length p) refl in
+      record {
+        read = rw first reply-read;
+        whole = rw first (reply-size i r (reply-length r h .1));
+        rest = drop-append-seam p (drop (length p) lent);
+      }

@@ -1,0 +1,91 @@
+-- A request that the station writes, given to a board that it addresses, does what the request says: the text in its packet is read back as that request.
+use mathlib.Core.Path.{_≡_, refl, sym, subst}
+use mathlib.Core.Bool.{Bool, _&&_}
+use mathlib.Core.List.{List, _++_}
+use mathlib.Core.Option.{Option, none, some}
+use Prim.Native.Nat.{ℕ, _+_, _-_, _≤_}
+use native.Mathlib.Omega.{arith}
+use borrow.Author.Tests.{eq-eqb, ne-eqb}
+use lib.Dec.{ltb, leb}
+use lib.ListN.{length, getD}
+use Rattle.wire.specs.Packet.{addressOf, allAddress, zeroByte, packet, requestPacket, textOf}
+use Rattle.wire.proofs.DigitLaws.{cond-by}
+use Rattle.wire.proofs.PacketLaws.{packet-length, text-packet}
+use Rattle.messages.specs.Message.{Request, IsRequest}
+use Rattle.messages.specs.Text.{requestType, requestText}
+use Rattle.messages.specs.Read.{requestIn}
+use Rattle.messages.proofs.RoundTrips.{request-back, request-type, request-length}
+use Rattle.erase.specs.Board.{Identity}
+use Rattle.erase.specs.Lists.{run}
+use Rattle.actions.specs.Act.{effectOf, effect}
+use Rattle.board.specs.Fed.{fed, waits, seenThen}
+use Rattle.board.specs.Calls.{BoardState, addressee, onPacketTo, onPacket, thisBoard}
+use Rattle.board.specs.Demand3.{Events}
+use Rattle.board.proofs.PacketFed.{packet-fed}
+use Rattle.station.specs.Encode.{Encoding, sends, refused, addressIn, encodingTo, encodingOf, encoding}
+use Rattle.station.specs.declared.encode.Destination.{Destination}
+use Rattle.exchange.specs.Demand2.{Addresses, done, Idle}
+
+-- ---- what the encoder sends
+
+pub record Sent (address : Option ℕ) (kind : ℕ) (text p : List ℕ) : Type 0 where
+  pub to : ℕ
+  pub known : address ≡ some to
+  pub is : p ≡ requestPacket to kind text
+
+module _ (kind : ℕ) (text p : List ℕ) where
+  refusal-sends-none : {P : Type 0} (n : ℕ) → refused n ≡ sends p → P
+  refusal-sends-none n e = let z : _≡_ {A = ℕ} 0 1 = cc in absurd (omega arith)
+
+  sent-to : (address : Option ℕ) (good : Bool) → encodingTo address good kind text ≡ sends p → Sent address kind text p
+  sent-to none good = refusal-sends-none 20
+  sent-to (some a) good =
+      cond-by (λ (x : Encoding). x ≡ sends p → Sent (some a) kind text p) good _ _ (λ _ e. record { to = a; known = refl; is = cc }) (λ _. refusal-sends-none 21)
+
+  sent : (room : ℕ) (dest : Destination) (good : Bool) → encodingOf room dest good kind text ≡ sends p → Sent (addressIn dest) kind text p
+  unfolding encodingOf
+  sent room dest good =
+      cond-by (λ (x : Encoding). x ≡ sends p → Sent (addressIn dest) kind text p) (ltb room 64) _ _ (λ _. refusal-sends-none 10) (λ _. sent-to (addressIn dest) good)
+
+-- ---- what its packet does at a board
+
+module _ (i : Identity) (m lent : List ℕ) (r : Request) (h : IsRequest r) where
+  abbrev packetTo : ℕ → List ℕ
+  packetTo a = requestPacket a (requestType r) (requestText r)
+
+  effect-back : (a : ℕ) → effect i m (requestIn (getD (packetTo a) 4 0) (textOf (packetTo a))) ≡ effectOf i m r
+  unfolding packet
+  effect-back a = rw (text-packet a zeroByte (requestType r) (requestText r) (request-length r h .1), request-back r h)
+
+  packet-done : (dest : Destination) (a : ℕ) → Addresses dest i → addressIn dest ≡ some a → onPacket i m (packetTo a) lent ≡ done dest i m r lent
+  unfolding onPacket onPacketTo addressee packet
+  packet-done (Destination.Id n) a to =
+      cond-by (λ (x : Option ℕ). x ≡ some a → onPacket i m (packetTo a) lent ≡ done (Destination.Id n) i m r lent) (leb 1 n && leb n 8) _ _
+      (λ _ e. let is : a ≡ addressOf (i .id) = cc in rw (eq-eqb a (addressOf (i .id)) is, effect-back a)) (λ _ e. cc)
+  packet-done Destination.All a to = λ e.
+      let is : a ≡ allAddress = cc in
+      rw (is, ne-eqb allAddress (addressOf (i .id)) (λ q. omega arith), effect-back allAddress)
+
+-- ---- every request
+
+module _ (dest : Destination) (r : Request) (s : BoardState) (m : List ℕ) (lent : ℕ → List ℕ) (es : Events) where
+  abbrev Does : List ℕ → Type 0
+  Does p = run thisBoard (s .ident) s m (fed lent 0 p ++ es)
+      ≡ waits lent m 0 (length p - 1) ++ seenThen (s .ident) m (done dest (s .ident) m r (lent (length p - 1))) es
+
+  packet-does : (a : ℕ) → IsRequest r → addressIn dest ≡ some a → Idle s m → Addresses dest (s .ident) → ((k : ℕ) → 64 ≤ length (lent k))
+      → Does (requestPacket a (requestType r) (requestText r))
+  packet-does a h known idle to big =
+      let text = requestText r in
+      let l : length (requestPacket a (requestType r) text) - 1 ≡ length text + 10 = rw packet-length (omega arith) in
+      rw (l, ← packet-done (s .ident) m (lent (length text + 10)) r h dest a to known)
+      (packet-fed s m lent a (requestType r) text es (idle .sound) (idle .resting) (idle .empty) big (request-type r) (request-length r h .0) (request-length r h .1))
+
+pub requests : (dest : Destination) (r : Request) (room : ℕ) (p : List ℕ) → IsRequest r → encoding room dest r ≡ sends p
+    → (s : BoardState) (m : List ℕ) → Idle s m → Addresses dest (s .ident)
+    → (lent : ℕ → List ℕ) → ((k : ℕ) → 64 ≤ length (lent k)) → (es : Events)
+    → run thisBoard (s .ident) s m (fed lent 0 p ++ es)
+    ≡ waits lent m 0 (length p - 1) ++ seenThen (s .ident) m (done dest (s .ident) m r (lent (length p - 1))) es
+requests dest r room p h e s m idle to lent big es =
+    let x = sent (requestType r) (requestText r) p room dest _ e in
+    subst (Does dest r s m lent es) (sym (x .is)) (packet-does dest r s m lent es (x .to) h (x .known) idle to big)
