@@ -1,0 +1,163 @@
+/*
+ * The station's encoder of requests and reader of replies, as C functions on numbers and bytes.
+ *
+ * Document 01 ('Packet', 'What a good packet does', 'Station') decides what they do, and the names here are its names. Each
+ * function is proved to do so for every input. The program that calls it is checked by nothing, so the caller has to keep this:
+ *
+ * - Behind each pointer stand as many elements as the length after it says; behind `size` and `count` stands one.
+ * - The buffers and places of one call do not overlap.
+ * - A null pointer is passed only with length 0, and better not even then; `size` and `count` are never null.
+ * - While a call runs, no one else writes what it was lent or uses what it may write.
+ *
+ * The functions keep no state, so several threads may call them at the same time on different buffers.
+ *
+ * A refused call writes nothing at all: the buffers and the place for the length stay as they were.
+ */
+#ifndef STATION_H
+#define STATION_H
+
+#include <stddef.h>
+#include <stdint.h>
+
+#ifdef __cplusplus
+extern "C" {
+#endif
+
+/* The destination of a request to every monitor; no byte has this value. Other destinations are the monitor IDs 1 to 8. */
+#define STATION_ALL 256
+
+/* The least room that the calls ask for, in elements. */
+#define STATION_PACKET_ROOM 64 /* out */
+#define STATION_NUMBERS_ROOM 9 /* numbers */
+#define STATION_BYTES_ROOM 16  /* bytes */
+
+/* Why a call is refused. Where several fit, the one that stands first here is given. */
+enum station_refusal {
+    STATION_REFUSED_SHORT_BUFFER = 10,     /* a lent buffer has less than the least room */
+    STATION_REFUSED_MONITOR_ID = 20,       /* encoder: the destination is neither 1 to 8 nor STATION_ALL */
+    STATION_REFUSED_VALUE = 21,            /* encoder: a mode, a date or a tag is outside its range */
+    STATION_REFUSED_REPLY_SHORT = 30,      /* reader: fewer than 13 bytes */
+    STATION_REFUSED_REPLY_HEADER = 31,     /* reader: not 01h '0' '0' in front, source not A to H, or type not B, D or F */
+    STATION_REFUSED_REPLY_LENGTH = 32,     /* reader: length digits bad, outside 4 to 64, or not this packet's */
+    STATION_REFUSED_REPLY_NO_RETURN = 33,  /* reader: the last byte is not CR */
+    STATION_REFUSED_REPLY_CHECK_CODE = 34, /* reader: the check code differs */
+    STATION_REFUSED_REPLY_MESSAGE = 35     /* reader: the message is none of the replies below */
+};
+
+/* The kind of a reply: what it answers. No refusal has such a number. */
+enum station_reply {
+    STATION_REPLY_NULL = 101,
+    STATION_REPLY_GET = 102,
+    STATION_REPLY_SET = 103,
+    STATION_REPLY_POWER_READ = 104,
+    STATION_REPLY_POWER_CONTROL = 105,
+    STATION_REPLY_DATE_READ = 106,
+    STATION_REPLY_DATE_WRITE = 107,
+    STATION_REPLY_SERIAL = 108,
+    STATION_REPLY_MODEL = 109,
+    STATION_REPLY_TAG = 110,
+    STATION_REPLY_FORMER_TAG = 111,
+    STATION_REPLY_TAG_WRITE = 112
+};
+
+/*
+ * The encoder. Every function of it does this:
+ *
+ *   dest            1 to 8, or STATION_ALL
+ *   out, out_len    the buffer for the packet, of at least STATION_PACKET_ROOM bytes
+ *   size            the place for the packet's length
+ *
+ * Checked in this order: 10 where out_len is below 64, 20 for the destination, 21 for a value outside its range, where a range is
+ * said below. The result is the first of these that fits, and then nothing is written.
+ *
+ * Else the result is 0, the packet stands in the first bytes of `out`, its length in `size`, and the rest of `out` is as it was.
+ * No packet is longer than 47 bytes.
+ */
+
+/* Asks for a setting. Any page and code. */
+uint8_t station_encode_get(uint16_t dest, uint8_t page, uint8_t code, uint8_t *out, size_t out_len, size_t *size);
+
+/* Changes a setting; page F0h, code 01h, value 1 erases the board. Any page, code and value: the board judges them. */
+uint8_t station_encode_set(uint16_t dest, uint8_t page, uint8_t code, uint16_t value, uint8_t *out, size_t out_len, size_t *size);
+
+/* Asks for the power mode. */
+uint8_t station_encode_power_read(uint16_t dest, uint8_t *out, size_t out_len, size_t *size);
+
+/* Changes the power mode: 1 on, 4 standby; 21 for another. */
+uint8_t station_encode_power_control(uint16_t dest, uint16_t mode, uint8_t *out, size_t out_len, size_t *size);
+
+/* Asks for the date. */
+uint8_t station_encode_date_read(uint16_t dest, uint8_t *out, size_t out_len, size_t *size);
+
+/*
+ * Changes the date: year 0 to 99, month 1 to 12, day 1 to 31, weekday 0 to 6 with Sunday 0, hour 0 to 23, minute 0 to 59,
+ * daylight 0; 21 where one is outside. Each is judged by itself, so that 31 February is sent.
+ */
+uint8_t station_encode_date_write(uint16_t dest, uint8_t year, uint8_t month, uint8_t day, uint8_t weekday, uint8_t hour,
+                                  uint8_t minute, uint8_t daylight, uint8_t *out, size_t out_len, size_t *size);
+
+/* Asks for the serial number. */
+uint8_t station_encode_serial_read(uint16_t dest, uint8_t *out, size_t out_len, size_t *size);
+
+/* Asks for the model. */
+uint8_t station_encode_model_read(uint16_t dest, uint8_t *out, size_t out_len, size_t *size);
+
+/* Asks for the tag. */
+uint8_t station_encode_tag_read(uint16_t dest, uint8_t *out, size_t out_len, size_t *size);
+
+/* Asks for the former tag. */
+uint8_t station_encode_former_tag_read(uint16_t dest, uint8_t *out, size_t out_len, size_t *size);
+
+/* Changes the tag to the tag_len bytes at `tag`, 0 to 16 of any value; 21 for more. */
+uint8_t station_encode_tag_write(uint16_t dest, const uint8_t *tag, size_t tag_len, uint8_t *out, size_t out_len, size_t *size);
+
+/*
+ * The reader: takes one whole packet apart, with nothing around it. A packet ends where its length digits L say, after L + 9
+ * bytes; a CR, 03h or 01h before that is a byte like others, for a check code may be one.
+ *
+ *   packet, packet_len      the packet
+ *   numbers, numbers_len    the place for the reply's numbers, of at least STATION_NUMBERS_ROOM
+ *   bytes, bytes_len        the place for a serial number, a model or a tag, of at least STATION_BYTES_ROOM bytes
+ *   count                   the place for how many bytes that is
+ *
+ * Checked in this order: 10 where numbers_len is below 9 or bytes_len below 16, then 30, 31, 32, 33, 34, 35. The result is the
+ * first of these that fits, and then nothing is written.
+ *
+ * Else the result is the kind of the reply. numbers[0] is the sender's ID, 1 to 8; from numbers[1] on stand:
+ *
+ *   101 NULL              none: the board does not know the request
+ *   102 Get               result, page, code, operation type, max, current value
+ *   103 Set               result, page, code, operation type, max, requested value
+ *   104 power read        status, mode: 1, 2 or 4
+ *   105 power control     status, mode
+ *   106 date read         year, month, day, weekday, hour, minute, daylight
+ *   107 date write        status, year, month, day, weekday, hour, minute, daylight
+ *   108 serial number     none
+ *   109 model             none
+ *   110 tag               none
+ *   111 former tag        none
+ *   112 tag write         status
+ *
+ * A result or status is 0, acknowledged, or 1, refused; an operation type is 0 or 1. Max, value and the mode of 105 may be any
+ * number to 65535, page, code and the fields of a date any to 255: the reader does not judge them.
+ *
+ * The kinds 108 to 112 put their 0 to 16 bytes at the start of `bytes` and how many they are into `count`; the others put 0 there.
+ * What `numbers` and `bytes` hold behind that is as it was.
+ *
+ * What the check code gives: it is the exclusive or of all bytes after SOH through ETX. A good packet of which exactly one byte is
+ * changed, in one bit or more, is always refused: 34, or before that 31 (header), 32 (length digits) or 33 (CR). SOH and CR are not
+ * covered; they are checked by their values, and the length digits also against the packet's length.
+ *
+ * What it can't give: two covered bytes exchanged, or two changed by the same difference, the check code itself being one of them
+ * perhaps, go unnoticed by it, and only the other checks can still refuse.
+ *
+ * Nothing in a packet says which request it answers.
+ */
+uint8_t station_read(const uint8_t *packet, size_t packet_len, uint16_t *numbers, size_t numbers_len, uint8_t *bytes,
+                     size_t bytes_len, size_t *count);
+
+#ifdef __cplusplus
+}
+#endif
+
+#endif
