@@ -1,0 +1,201 @@
+// Lists of calls and power cuts, played on a board by its real calls, with all that is seen of them.
+ghost use mathlib.Core.Bool.{false};
+ghost use mathlib.Core.List.{List, _∷_};
+ghost use mathlib.Core.Path.{_≡_};
+ghost use Prim.Native.Nat.{ℕ, _+_, _≤_};
+ghost use lib.ListN.{length};
+ghost use Rattle.wire.specs.Packet.{over};
+ghost use Rattle.board.specs.View.{stateOf, answerOf, givenIdentity};
+ghost use Rattle.board.specs.Demand3.{Events};
+ghost use Rattle.board.specs.Calls.{BoardState, thisBoard};
+ghost use Rattle.erase.specs.Lists.{cut, run};
+ghost use Rattle.play.specs.Play.{eventOf, eventsIn, partOf, numberIn, entryOf, seenOf, goesOn, traceOf, Plays};
+use board::board as calls;
+use board::board::Answer;
+use board::board::Board;
+use board::board::Verdict;
+use wire::refusal::Refusal;
+
+// What is seen of an event.
+pub enum Seen {
+    Answered(Answer),
+    Started,
+    Unstarted(Refusal),
+}
+
+// What is seen of an event, and the board after it.
+pub struct Turn {
+    pub board: Board,
+    pub seen: Seen,
+}
+
+// Plays events on a board and a store. Two numbers are an event: a byte, 256 for a gap, 257 for a step or another for a power cut with its
+// start; and the length of its lent buffer, which is the next part of what is lent. The parts are left as the calls leave them. For each
+// event its answer and the store after it are written, as long as there is room; after a refused start nothing more is played.
+pub fn play(
+    board: Board,
+    id: u8,
+    serial: &[u8],
+    model: &[u8],
+    store: &mut [u8],
+    events: &[u16],
+    lent: &mut [u8],
+    log: &mut [usize],
+)
+    ensures { λ _. ⌜ Plays (run thisBoard (givenIdentity id (now (serial .entry)) (now (model .entry))) (stateOf board) (now (store .entry)) (eventsIn (length (now (store .entry))) (length (now (log .entry))) (now (events .entry)) (now (lent .entry)))) (now (store .entry)) (now (store .exit)) (now (lent .entry)) (now (lent .exit)) (now (log .entry)) (now (log .exit)) ⌝ }
+{
+    if events.len() < 2 {
+        return;
+    }
+    if log.len() < 2 {
+        return;
+    }
+    if log.len() - 2 < store.len() {
+        return;
+    }
+    let event = events[0];
+    let n = part(event, events[1], lent.len());
+    let turn = turn_of(board, id, serial, model, store, event, &mut lent[..n]);
+    let seen = turn.seen;
+    if !enter(seen, store, log) {
+        return;
+    }
+    let used = store.len() + 2;
+    let next = turn.board;
+    play(
+        next,
+        id,
+        serial,
+        model,
+        store,
+        &events[2..],
+        &mut lent[n..],
+        &mut log[used..],
+    )
+}
+
+// How long an event's part of what is lent is: a cut has none, and none is longer than what is left.
+fn part(event: u16, wanted: u16, left: usize) -> usize
+    ensures { λ r. ⌜ (r ≡ partOf event wanted left) × (r ≤ left) ⌝ }
+{
+    if 257 < event {
+        return 0;
+    }
+    if left < wanted as usize {
+        return left;
+    }
+    wanted as usize
+}
+
+// One event. A refused start leaves the store as it was.
+fn turn_of(
+    board: Board,
+    id: u8,
+    serial: &[u8],
+    model: &[u8],
+    store: &mut [u8],
+    event: u16,
+    lent: &mut [u8],
+) -> Turn
+    ensures { λ r. ⌜ ((es : Events) → traceOf r (givenIdentity id (now (serial .entry)) (now (model .entry))) (now (store .exit)) (now (lent .exit)) es ≡ run thisBoard (givenIdentity id (now (serial .entry)) (now (model .entry))) (stateOf board) (now (store .entry)) (eventOf event (now (lent .entry)) ∷ es)) × (goesOn (r .seen) ≡ false → now (store .exit) ≡ now (store .entry)) ⌝ }
+{
+    if event < 256 {
+        let done = board.byte(store, event as u8, lent);
+        let answer = done.answer;
+        let next = done.board;
+        return Turn {
+            board: next,
+            seen: Seen::Answered(answer),
+        };
+    }
+    if event == 256 {
+        let done = board.gap(store);
+        let answer = done.answer;
+        let next = done.board;
+        return Turn {
+            board: next,
+            seen: Seen::Answered(answer),
+        };
+    }
+    if event == 257 {
+        let done = board.step(store, lent);
+        let answer = done.answer;
+        let next = done.board;
+        return Turn {
+            board: next,
+            seen: Seen::Answered(answer),
+        };
+    }
+    start_again(store, id, serial, model)
+}
+
+// A power cut's start, on the store as it is, and is left.
+fn start_again(store: &mut [u8], id: u8, serial: &[u8], model: &[u8]) -> Turn
+    ensures { λ r. ⌜ ((s : BoardState) (lent : List ℕ) (es : Events) → traceOf r (givenIdentity id (now (serial .entry)) (now (model .entry))) (now (store .exit)) lent es ≡ run thisBoard (givenIdentity id (now (serial .entry)) (now (model .entry))) s (now (store .entry)) (cut ∷ es)) × (now (store .exit) ≡ now (store .entry)) ⌝ }
+{
+    let started = calls::start(store, id, serial, model);
+    let verdict = started.verdict;
+    let next = started.board;
+    match verdict {
+        Verdict::Ready => {
+            return Turn {
+                board: next,
+                seen: Seen::Started,
+            };
+        }
+        Verdict::Refused(refusal) => {
+            return Turn {
+                board: next,
+                seen: Seen::Unstarted(refusal),
+            };
+        }
+    }
+}
+
+// Writes what is seen of an event at the start of the log; whether there is a board after it.
+fn enter(seen: Seen, store: &[u8], log: &mut [usize]) -> bool
+    requires { ⌜ length (now store) + 2 ≤ length (now log) ⌝ }
+    ensures { λ r. ⌜ (r ≡ goesOn seen) × ((lent : List ℕ) → now (log .exit) ≡ over (entryOf (seenOf seen (now (store .entry)) lent)) (now (log .entry))) ⌝ }
+{
+    match seen {
+        Seen::Answered(answer) => {
+            put_entry(answer.kind() as usize, number_in(answer), store, log);
+            return true;
+        }
+        Seen::Started => {
+            put_entry(7, 0, store, log);
+            return true;
+        }
+        Seen::Unstarted(refusal) => {
+            log[0] = 8;
+            log[1] = refusal.number() as usize;
+            return false;
+        }
+    }
+}
+
+// Two numbers and the bytes of a store.
+fn put_entry(kind: usize, number: usize, store: &[u8], log: &mut [usize])
+    requires { ⌜ length (now store) + 2 ≤ length (now log) ⌝ }
+    ensures { λ _. ⌜ now (log .exit) ≡ over (kind ∷ number ∷ now (store .entry)) (now (log .entry)) ⌝ }
+{
+    log[0] = kind;
+    log[1] = number;
+    let mut i: usize = 0;
+    while i < store.len() {
+        log[i + 2] = store[i] as usize;
+        i += 1;
+    }
+}
+
+fn number_in(answer: Answer) -> usize
+    ensures { λ r. ⌜ r ≡ numberIn (answerOf answer) ⌝ }
+{
+    if let Answer::Refused(refusal) = answer {
+        return refusal.number() as usize;
+    }
+    if let Answer::Reply(n) = answer {
+        return n;
+    }
+    0
+}
