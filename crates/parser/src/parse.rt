@@ -6,10 +6,9 @@ ghost use Prim.Native.Nat.{ℕ};
 ghost use Rattle.messages.specs.Message.Request.{dateWrite};
 ghost use Rattle.messages.specs.Read.{requestIn, commandIn, getIn, setIn, powerControlIn, dateIn};
 ghost use Rattle.parser.specs.View.{parsed, parsedWith};
-use crate::field;
-use crate::field::DateField;
 use messages::message::Item;
 use messages::message::Request;
+use text_fields::DateField;
 use wire::digits;
 use wire::digits::Octet;
 use wire::digits::Word;
@@ -39,7 +38,7 @@ pub fn parse_request(kind: u8, text: &[u8]) -> ParsedRequest
     if kind != 0x41 {
         return without_bytes(Parsed::Other);
     }
-    if !field::begins_with(b"F011", text) {
+    if !text_fields::begins_with(b"F011", text) {
         return without_bytes(parse_command(text));
     }
     let tag = digits::bytes_of(&text[4..]);
@@ -103,28 +102,28 @@ fn parse_set(text: &[u8]) -> Parsed
 fn parse_command(text: &[u8]) -> Parsed
     ensures { λ r. ⌜ ((bytes : List ℕ) → parsedWith r bytes ≡ commandIn (now (text .entry))) ⌝ }
 {
-    if field::is_name(b"01D6", text) {
+    if text_fields::is_name(b"01D6", text) {
         return Parsed::Request(Request::PowerRead);
     }
-    if field::is_name(b"C211", text) {
+    if text_fields::is_name(b"C211", text) {
         return Parsed::Request(Request::DateRead);
     }
-    if field::is_name(b"C216", text) {
+    if text_fields::is_name(b"C216", text) {
         return Parsed::Request(Request::ItemRead(Item::Serial));
     }
-    if field::is_name(b"C217", text) {
+    if text_fields::is_name(b"C217", text) {
         return Parsed::Request(Request::ItemRead(Item::Model));
     }
-    if field::is_name(b"F010", text) {
+    if text_fields::is_name(b"F010", text) {
         return Parsed::Request(Request::ItemRead(Item::Tag));
     }
-    if field::is_name(b"F012", text) {
+    if text_fields::is_name(b"F012", text) {
         return Parsed::Request(Request::ItemRead(Item::FormerTag));
     }
-    if field::begins_with(b"C203D6", text) {
+    if text_fields::begins_with(b"C203D6", text) {
         return parse_power_control(&text[6..]);
     }
-    if field::begins_with(b"C212", text) {
+    if text_fields::begins_with(b"C212", text) {
         return parse_date_write(&text[4..]);
     }
     Parsed::Other
@@ -147,7 +146,7 @@ fn parse_power_control(text: &[u8]) -> Parsed
 fn parse_date_write(text: &[u8]) -> Parsed
     ensures { λ r. ⌜ ((bytes : List ℕ) → parsedWith r bytes ≡ Option·map dateWrite (dateIn (now (text .entry)))) ⌝ }
 {
-    let DateField::Is(date) = field::date_in(text) else {
+    let DateField::Is(date) = text_fields::date_in(text) else {
         return Parsed::Other;
     };
     Parsed::Request(Request::DateWrite(date))

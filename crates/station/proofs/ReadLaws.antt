@@ -2,7 +2,7 @@
 use borrow.Author.Tests.{leb-true, eqb-true}
 use types.Run.{OneOf, miss}
 use denote.Enum.Declared.{tagOf}
-use mathlib.Core.Bool.{true, _&&_}
+use mathlib.Core.Bool.{Bool, true, _&&_}
 use mathlib.Core.List.{List, [], _∷_}
 use mathlib.Core.Option.{Option, none, some}
 use mathlib.Core.Path.{_≡_, refl}
@@ -17,18 +17,31 @@ use Rattle.wire.specs.declared.refusal.Refusal.{Refusal}
 use Rattle.wire.proofs.refusal.Refusal.{the-type}
 use Rattle.store.proofs.StoreLaws.{both}
 use Rattle.messages.specs.Message.{Reply}
-use Rattle.parser.specs.View.{answerWith, orRefused}
-use Rattle.parser.specs.declared.read.Answer.{Answer}
+use Rattle.replies.specs.View.{answerWith, orRefused}
+use Rattle.replies.specs.declared.read.Answer.{Answer}
 use Rattle.station.specs.Read.{isSource, isReplyType, isReplyHeader, isWholeLength, readerNumber, readAs, answerAs}
 
 module _ (p : List ℕ) where
-  pub source-of-reply : isReplyHeader p ≡ true → 0x41 ≤ getD p 3 0
+  -- the three bytes that are the same in every reply
+  abbrev isFixed : Bool
+  isFixed = eqb (getD p 0 0) soh && eqb (getD p 1 0) zeroByte && eqb (getD p 2 0) zeroByte
+
+  fixed-and-source : isReplyHeader p ≡ true → (isFixed ≡ true) × (isSource (getD p 3 0) ≡ true)
   unfolding isReplyHeader
+  fixed-and-source e =
+      let source = isSource (getD p 3 0) in
+      both isFixed source (both (isFixed && source) (isReplyType (getD p 4 0)) e .0)
+
+  pub start-of-reply : isReplyHeader p ≡ true → getD p 0 0 ≡ soh
+  start-of-reply e =
+      let start = eqb (getD p 0 0) soh in
+      let reserved = eqb (getD p 1 0) zeroByte in
+      eqb-true (getD p 0 0) soh (both start reserved (both (start && reserved) (eqb (getD p 2 0) zeroByte) (fixed-and-source e .0) .0) .0)
+
+  pub source-of-reply : isReplyHeader p ≡ true → 0x41 ≤ getD p 3 0
   source-of-reply e =
-      let addressed = eqb (getD p 0 0) soh && eqb (getD p 1 0) zeroByte && eqb (getD p 2 0) zeroByte in
       let source = getD p 3 0 in
-      let untyped = both (addressed && isSource source) (isReplyType (getD p 4 0)) e .0 in
-      leb-true 0x41 source (both (leb 0x41 source) (leb source 0x48) (both addressed (isSource source) untyped .1) .0)
+      leb-true 0x41 source (both (leb 0x41 source) (leb source 0x48) (fixed-and-source e .1) .0)
 
   pub whole-packet : 13 ≤ length p → isWholeLength p ≡ true → Whole p
   unfolding isWholeLength

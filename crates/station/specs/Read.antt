@@ -12,7 +12,7 @@ use Rattle.wire.specs.Refusal.{numberOf}
 use Rattle.messages.specs.Message.{Reply}
 use Rattle.messages.specs.Read.{replyIn}
 use Rattle.messages.specs.View.{replyOf}
-use Rattle.parser.specs.declared.read.Answer.{Answer}
+use Rattle.replies.specs.declared.read.Answer.{Answer}
 use Rattle.station.specs.declared.read.Reading.{Reading}
 
 -- a reply with its sender's ID, or a refusal

@@ -13,7 +13,7 @@ use messages::message::Outcome;
 use messages::message::Parameter;
 use messages::message::PowerMode;
 use messages::message::Reply;
-use parser::read::Answer;
+use replies::read::Answer;
 use station::read;
 use wire::digits;
 

@@ -3,7 +3,7 @@ use mathlib.Core.Path.{sym, _∙_}
 use borrow.Author.Needs.{needs}
 use Rattle.messages.specs.Text.{powerControlName, dateWriteName}
 use Rattle.messages.specs.Read.{commandIn}
-use Rattle.parser.proofs.ReadLaws.{begins-length, part-rest}
+use Rattle.text_fields.proofs.TextLaws.{begins-length, part-rest}
 use Rattle.parser.proofs.parse.parse_command.Statement.{statement}
 use Rattle.parser.proofs.parse.parse_command.Tie as tie
 

@@ -1,7 +1,7 @@
 -- A date in the text is the request to write it.
 use mathlib.Core.Path.{sym, ap, _∙_}
 use borrow.Author.Needs.{needs}
-use Rattle.parser.specs.View.{dateOf}
+use Rattle.text_fields.specs.View.{dateOf}
 use Rattle.parser.proofs.parse.parse_date_write.Statement.{statement}
 use Rattle.parser.proofs.parse.parse_date_write.Tie as tie
 

@@ -4,7 +4,7 @@ use borrow.Author.Needs.{needs}
 use borrow.Author.Tests.{eq-eqb, ne-eqb, not-true, not-false}
 use Rattle.messages.specs.Text.{tagWriteName}
 use Rattle.messages.specs.Read.{requestIn}
-use Rattle.parser.proofs.ReadLaws.{begins-length, part-rest}
+use Rattle.text_fields.proofs.TextLaws.{begins-length, part-rest}
 use Rattle.parser.proofs.parse.parse_request.Statement.{statement}
 use Rattle.parser.proofs.parse.parse_request.Tie as tie
 

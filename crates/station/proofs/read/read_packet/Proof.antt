@@ -13,8 +13,8 @@ use Rattle.wire.specs.declared.packet.Judged.{Judged}
 use Rattle.wire.specs.declared.refusal.Refusal.{Refusal}
 use Rattle.wire.proofs.Tests.{tests}
 use Rattle.messages.specs.Read.{replyIn}
-use Rattle.parser.specs.View.{reading, orRefused}
-use Rattle.parser.specs.declared.read.ReplyRead.{ReplyRead}
+use Rattle.replies.specs.View.{reading, orRefused}
+use Rattle.replies.specs.declared.read.ReplyRead.{ReplyRead}
 use Rattle.station.specs.Read.{refused, isReplyHeader, isWholeLength, readerNumber, readPacket, answerAs}
 use Rattle.station.proofs.ReadLaws.{source-of-reply, whole-packet, text-of-whole, with-sender}
 use Rattle.station.proofs.read.read_packet.Statement.{statement}

@@ -10,7 +10,7 @@ use Rattle.wire.specs.Refusal.{numberOf}
 use Rattle.wire.specs.declared.refusal.Refusal.{Refusal}
 use Rattle.wire.proofs.Tests.{tests}
 use Rattle.messages.specs.declared.message.Reply.{Reply}
-use Rattle.parser.specs.declared.read.Answer.{Answer}
+use Rattle.replies.specs.declared.read.Answer.{Answer}
 use Rattle.station.specs.Read.{Reads, refused, readPacket, reads}
 use Rattle.station.specs.declared.read.Reading.{Reading}
 use Rattle.station_c.specs.Read.{readInto, Exports, Lists}

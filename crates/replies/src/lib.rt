@@ -1,0 +1,2 @@
+// The reply that a text holds.
+pub mod read;
