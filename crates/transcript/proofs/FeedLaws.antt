@@ -15,12 +15,19 @@ use Rattle.wire.proofs.PacketLaws.{over-take}
 use Rattle.erase.specs.Calls.{onCall, onStep}
 use Rattle.board.specs.Calls.{byte, BoardState, thisBoard}
 use Rattle.board.specs.View.{Result, result}
-use Rattle.transcript.specs.Transcript.{isBegun, lineOf, stepped, transcribedFrom, fed, Told}
+use Rattle.transcript.specs.Transcript.{isBegun, lineOf, stepped, transcribedFrom, fed, Transcribed, Told}
 
 pub one-step-more : (i : ℕ) (r q p : Result) → q ≡ stepped i r
     → p ≡ result (onStep thisBoard (q .state) (q .store) (q .buffer)) (q .store) → p ≡ stepped (i + 1) r
 unfolding stepped
 one-step-more i r q p e f = rw (add-one i, ← e) f
+
+-- the lines stand within the buffer
+pub lines-fit : {t : Transcribed} {s : BoardState} {n : ℕ} {m lent o o₁ : List ℕ} → Told t s n m lent o o₁ → n ≤ length o₁
+unfolding over
+lines-fit {t} {s} {n} {m} {lent} {o} {o₁} told =
+    let l : length o₁ ≡ length (t .lines) + (length o - length (t .lines)) = rw (told .written, length-append, length-drop) in
+    omega (arith, told .count)
 
 module _ (at b : ℕ) (s : BoardState) (m lent o : List ℕ) where
   nothing-told : eqb (length lent) 64 && leb 512 (length o) ≡ false → Told (fed at b s m lent (length o)) s 0 m lent o o
