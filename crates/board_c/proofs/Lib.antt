@@ -1,0 +1,3 @@
+pub mod StateLaws
+pub mod Theorems
+pub mod AnswerLaws

@@ -1,0 +1,43 @@
+-- The board is read, the call answers as the board does, and what it leaves is written unless nothing changes.
+use Rattle.board.specs.Calls.{byte}
+use Rattle.board_c.proofs.AnswerLaws.{call-answers}
+use borrow.Author.Needs.{needs}
+use Rattle.board_c.proofs.calls.board_byte.Statement.{statement}
+use Rattle.board_c.proofs.calls.board_byte.Tie as tie
+
+board-in-requires : tie.Need-board-in-requires
+board-in-requires c κs = search needs
+
+byte-requires : tie.Need-byte-requires
+byte-requires c κs = search needs
+
+answered-requires : tie.Need-answered-requires
+answered-requires c κs = search needs
+
+same-length : tie.Need-same-length
+same-length c = search needs
+
+same-length-2 : tie.Need-same-length-2
+same-length-2 c = search needs
+
+same-length-3 : tie.Need-same-length-3
+same-length-3 c = search needs
+
+returns : tie.Need-returns
+returns c =
+    let s = c .before .before .before .before .before .before .before .before .before .before .before .before .before .before .before .before .before .before in
+    let i = c .before .before .before .before .before .before .before .before .before .before .before .before .before .board-in in
+    let d = c .before .before .before .before .before .before .before .before .before .before .byte in
+    call-answers (d .result) _ (s .args .refusal .now) _ (s .args .size .now) _ (s .args .state .now) _ (s .args .store .now) _ (s .args .reply .now) _ (c .before .before .answered .ensures) (i .result) (i .ensures) (byte (s .args .b)) (d .ensures)
+
+pub board-byte-spec : {M : Type 1} → statement M
+board-byte-spec =
+    tie.close
+    (tie.spec
+    board-in-requires
+    byte-requires
+    answered-requires
+    same-length
+    same-length-2
+    same-length-3
+    returns)

@@ -1,0 +1,32 @@
+-- A refusal and a reply each write their place, and another answer writes none.
+use Rattle.board_c.proofs.AnswerLaws.{refusal-told, neither}
+use borrow.Author.Needs.{needs}
+use Rattle.board_c.proofs.calls.tell.Statement.{statement}
+use Rattle.board_c.proofs.calls.tell.Tie as tie
+
+enum-known-answer : tie.Need-enum-known-answer
+enum-known-answer c = search needs
+
+number-requires : tie.Need-number-requires
+number-requires c κs = search needs
+
+returns : tie.Need-returns
+returns c =
+    let s = c .before .before .before .before in
+    refusal-told (s .args .answer) _ (s .args .refusal .now) _ (s .args .size .now) (c .before .before .answer .given .1) (c .number .ensures)
+
+enum-known-answer-2 : tie.Need-enum-known-answer-2
+enum-known-answer-2 c = search needs
+
+returns-2 : tie.Need-returns-2
+returns-2 c = search needs
+
+returns-3 : tie.Need-returns-3
+returns-3 c =
+    let s = c .before .before in
+    neither (s .args .answer) (s .args .refusal .now) (s .args .size .now) (c .before .match .keys2) (c .match2 .keys2)
+
+pub tell-spec : {M : Type 1} → statement M
+tell-spec =
+    tie.close
+    (tie.spec enum-known-answer number-requires returns enum-known-answer-2 returns-2 returns-3)
