@@ -3,11 +3,11 @@ use mathlib.Core.Path.{_≡_, refl, ap, sym, _∙_, subst}
 use mathlib.Core.Bool.{Bool, true, false, _&&_}
 use mathlib.Core.List.{List, [], _∷_, _++_}
 use mathlib.Core.Logic.{_⊎_, inl, inr, _≢_}
-use Prim.Native.Nat.{ℕ, _≤_}
+use Prim.Native.Nat.{ℕ}
 use native.Mathlib.Omega.{arith}
-use lib.Dec.{ltb, leb, eqb}
+use lib.Dec.{ltb, eqb}
 use lib.ListN.{length, getD}
-use borrow.Author.Tests.{eq-eqb, eqb-true, leb-true}
+use borrow.Author.Tests.{eq-eqb, eqb-true}
 use Rattle.plan.specs.Stores.{Entry, entry, applied}
 use Rattle.plan.proofs.Laws.{applied-length}
 use Rattle.wire.specs.Packet.{soh, addressOf, allAddress, textOf, size}
@@ -24,48 +24,9 @@ use Rattle.erase.specs.Board.{Identity, Answer, waiting, silent, begun, refused
 use Rattle.erase.specs.Calls.{mark, eraseMark, atRest, erasing, isSoundAs, isSound}
 use Rattle.erase.proofs.Laws.{Startable, Settles, Begins, Laws}
 use Rattle.actions.specs.Act.{Effect, replies, begins, effect}
-use Rattle.board.specs.Calls.{
-  Call,
-  byte,
-  gap,
-  BoardState,
-  BoardOutcome,
-  holding,
-  answers,
-  isIdentity,
-  Addressee,
-  own,
-  all,
-  another,
-  addressee,
-  toOwn,
-  toAll,
-  onPacketTo,
-  onPacket,
-  onReceipt,
-  does,
-  owes,
-  isNone,
-  startOther,
-  thisBoard,
-}
-use Rattle.board.proofs.EffectLaws.{Keeps, effect-keeps}
-
--- ---- an identity in range
-
-pub record Named (i : Identity) : Type 0 where
-  pub least : 1 ≤ i .id
-  pub most : i .id ≤ 8
-  pub serial : length (i .serial) ≤ 16
-  pub model : length (i .model) ≤ 16
-
-pub named-told : (i : Identity) → isIdentity i ≡ true → Named i
-unfolding isIdentity
-named-told i h =
-    let x = both (leb 1 (i .id) && leb (i .id) 8 && leb (length (i .serial)) 16) (leb (length (i .model)) 16) h in
-    let y = both (leb 1 (i .id) && leb (i .id) 8) (leb (length (i .serial)) 16) (x .0) in
-    let z = both (leb 1 (i .id)) (leb (i .id) 8) (y .0) in
-    record { least = leb-true _ _ (z .0); most = leb-true _ _ (z .1); serial = leb-true _ _ (y .1); model = leb-true _ _ (x .1) }
+use Rattle.packets.specs.Packets.{BoardState, BoardOutcome, holding, answers, isIdentity, Addressee, own, all, another, addressee, toOwn, toAll, onPacketTo, onPacket}
+use Rattle.board.specs.Calls.{Call, byte, gap, onReceipt, does, owes, isNone, startOther, thisBoard}
+use Rattle.packets.proofs.EffectLaws.{Keeps, effect-keeps}
 
 -- ---- a sound board with no erase pending
 

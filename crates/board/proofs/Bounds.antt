@@ -17,32 +17,12 @@ use Rattle.erase.specs.Board.{Identity, Answer, waiting, silent, begun, more, e
 use Rattle.erase.specs.Calls.{refuse, stepOn, onCall, onStep}
 use Rattle.erase.proofs.Steps.{Called, Stepped, refuses, clears, does, called, stepped, step-clears-or-ends}
 use Rattle.actions.specs.Act.{Effect, replies, begins, effect}
-use Rattle.board.specs.Calls.{
-  Call,
-  byte,
-  gap,
-  BoardState,
-  BoardOutcome,
-  Addressee,
-  own,
-  all,
-  another,
-  addressee,
-  replyFrom,
-  eraseReply,
-  lastAnswer,
-  lastBuffer,
-  toOwn,
-  toAll,
-  onPacketTo,
-  onPacket,
-  onReceipt,
-  thisBoard,
-}
+use Rattle.packets.specs.Packets.{BoardState, BoardOutcome, Addressee, own, all, another, addressee, replyFrom, toOwn, toAll, onPacketTo, onPacket}
+use Rattle.board.specs.Calls.{Call, byte, gap, eraseReply, lastAnswer, lastBuffer, onReceipt, thisBoard}
 use Rattle.board.specs.Calls as board
-use Rattle.board.proofs.EffectLaws.{effect-ready}
+use Rattle.packets.proofs.EffectLaws.{effect-ready}
 use Rattle.board.proofs.BoardLaws.{Resting, resting}
-use Rattle.board.proofs.ReplyLaws.{Fitting, reply-length, reply-size, effect-fits}
+use Rattle.packets.proofs.ReplyLaws.{Fitting, reply-length, reply-size, effect-fits}
 
 -- a packet at the start of the lent buffer, and the answer tells its length
 pub record Replied (lent : List ℕ) (n : ℕ) (buffer : List ℕ) : Type 0 where

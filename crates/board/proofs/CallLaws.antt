@@ -8,9 +8,6 @@ use native.Mathlib.Omega.{arith}
 use lib.Dec.{ltb, leb, eqb}
 use lib.ListN.{length, getD, set, take, length-take, length-append}
 use borrow.Author.Tests.{eq-eqb, ne-eqb, lt-ltb, le-ltb, le-leb, lt-leb, leb-true, leb-false, eqb-true, eqb-false, ltb-false, not-true, not-false}
-use Rattle.plan.specs.Stores.{entry, applied, Ready}
-use Rattle.plan.specs.Plans.{storesOf, Grown}
-use Rattle.plan.specs.declared.Plan.{Plan}
 use Rattle.wire.specs.Refusal.{numberOf}
 use Rattle.wire.specs.declared.refusal.Refusal.{Refusal}
 use Rattle.wire.specs.Packet.{soh, size}
@@ -28,16 +25,19 @@ use Rattle.erase.specs.Board.{Identity, pending, idle}
 use Rattle.erase.specs.Calls.{mark, eraseMark, firstBytes, same, isShort, refuse, atRest, erasing, isSoundAs, isSound, callOn, onCall, stepOn, onStep, onStart}
 use Rattle.actions.specs.View.{seenText, identityOf}
 use Rattle.board.specs.Calls as calls
-use Rattle.board.specs.Calls.{Call, byte, gap, lends, BoardState, BoardOutcome, isIdentity, startOther, thisBoard}
-use Rattle.board.specs.View.{eraseOf, stateOf, answerOf, Result, result, gave, started, Refusing, noBoard, identityFits, freshState, soundWith, leftState, acted, Accepting, Acting}
-use Rattle.board.specs.declared.packet.Acted.{Acted}
+use Rattle.packets.specs.Packets.{holding, onPacket, BoardState, BoardOutcome, isIdentity}
+use Rattle.board.specs.Calls.{Call, byte, gap, lends, startOther, thisBoard}
+use Rattle.packets.specs.View.{Result, result, acted}
+use Rattle.board.specs.View.{eraseOf, stateOf, answerOf, gave, started, Refusing, noBoard, identityFits, freshState, soundWith, leftState, Accepting, Acting}
+use Rattle.packets.specs.declared.Acted.{Acted}
 use Rattle.board.specs.declared.board.Erase.{Erase}
 use Rattle.board.specs.declared.board.Board.{Board}
 use Rattle.board.specs.declared.board.Answer.{Answer}
 use Rattle.board.specs.declared.board.Done.{Done}
 use Rattle.board.specs.declared.board.Started.{Started}
 use Rattle.board.specs.declared.board.Verdict.{Verdict}
-use Rattle.board.proofs.BoardLaws.{named-told, Resting, resting, whole-is}
+use Rattle.packets.proofs.IdentityLaws.{named-told}
+use Rattle.board.proofs.BoardLaws.{Resting, resting, whole-is}
 
 -- ---- soundness by the counts of the texts
 
@@ -157,18 +157,6 @@ module _ (d : Done) (b : Board) (p : ℕ) (owed : Bool) (m m' lent : List ℕ) w
   unfolding stepOn atRest mark unusedStore
   ends-whole o e h lent' left = rw (e, lt-leb p 127 h, left .0, left .1, left .2, left .3)
 
--- ---- a plan of one byte
-
-pub one-store : (before after : Plan) (p v : ℕ) → storesOf before ≡ [] → Grown before after (entry p v ∷ []) 1 → storesOf after ≡ entry p v ∷ []
-one-store before after p v none g = g .stores ∙ rw none
-
-pub one-ready : (before after : Plan) (p v n : ℕ) → storesOf before ≡ [] → Grown before after (entry p v ∷ []) 1 → p < n → Ready n (storesOf after)
-one-ready before after p v n none g h = rw (one-store before after p v none g) (record { few = omega arith; within = (h, tt) })
-
-pub one-stored : (before after : Plan) (p v : ℕ) (m m' : List ℕ) → storesOf before ≡ [] → Grown before after (entry p v ∷ []) 1
-    → m' ≡ applied (storesOf after) m → m' ≡ set m p v
-one-stored before after p v m m' none g e = e ∙ rw (one-store before after p v none g)
-
 -- ---- a start
 
 module _ (r : Started) (i : Identity) (m m' : List ℕ) (same : m' ≡ m) where
@@ -195,7 +183,7 @@ module _ (i : Identity) (m : List ℕ) where
     start-other f g = rw (eq-eqb (length m) 128 all, ne-eqb (getD m 0 0) eraseMark f, ne-eqb (getD m 0 0) 0 g)
 
     pub start-unused : getD m 0 0 ≡ 0
-        → onStart thisBoard i m ≡ cond (isIdentity i && fieldsInRange m) (erase.board (calls.holding i []) []) (erase.noBoard 12)
+        → onStart thisBoard i m ≡ cond (isIdentity i && fieldsInRange m) (erase.board (holding i []) []) (erase.noBoard 12)
     unfolding onStart startOther mark unusedStore
     start-unused e = rw (eq-eqb (length m) 128 all, e)
 
@@ -259,7 +247,7 @@ module _ (b : Board) (m lent : List ℕ) (a : Accepting b m lent) where
     declines-whole n e = rw (← told, e, a .idle)
 
     pub acts-whole : r ≡ Progress.Whole → (d : Done) (m' lent' : List ℕ)
-        → gave d m' lent' ≡ result (calls.onPacket (stateOf b .ident) m (take (b .len + 1) held) lent) m
+        → gave d m' lent' ≡ result (onPacket (stateOf b .ident) m (take (b .len + 1) held) lent) m
         → gave d m' lent' ≡ result (calls.does (byte x) (stateOf b) m lent) m
     unfolding calls.does calls.onReceipt
     acts-whole e d m' lent' h = rw (← told, e) h

@@ -17,7 +17,8 @@ use Rattle.erase.specs.Lists.{call, step, cut, run, Acceptance, traceAfter}
 use Rattle.erase.proofs.Steps.{Called, refuses, does, called}
 use Rattle.erase.proofs.Kept.{unused-startable, rest-start}
 use Rattle.erase.proofs.Theorem.{erases}
-use Rattle.board.specs.Calls.{Call, byte, gap, BoardState, isIdentity, lastAnswer, lastBuffer, owes, thisBoard}
+use Rattle.packets.specs.Packets.{BoardState, isIdentity}
+use Rattle.board.specs.Calls.{Call, byte, gap, lastAnswer, lastBuffer, owes, thisBoard}
 use Rattle.board.specs.Demand3.{Events, unusedBytes, eraseReplyBytes, unusedTrace, expected, NoneSent, reaches, owed, Demand3}
 use Rattle.board.proofs.BoardLaws.{resting, board-laws}
 use Rattle.board.proofs.Numbers.{reply-bytes, unused-bytes}

@@ -19,10 +19,12 @@ use Rattle.erase.specs.Board.{Identity, Answer, waiting, begun, idle}
 use Rattle.erase.specs.Calls.{isSound}
 use Rattle.erase.specs.Lists.{call, answered, seen, run}
 use Rattle.actions.specs.Act.{begins, effect, effectOf, setEffect}
-use Rattle.board.specs.Calls.{byte, gap, does, holding, BoardState, Addressee, own, all, addressee, toOwn, toAll, onPacketTo, onPacket, thisBoard}
+use Rattle.packets.specs.Packets.{holding, BoardState, Addressee, own, all, addressee, toOwn, toAll, onPacketTo, onPacket}
+use Rattle.board.specs.Calls.{byte, gap, does, thisBoard}
 use Rattle.board.specs.Demand3.{Events, answersIn, eraseRequest}
 use Rattle.board.specs.Fed.{fed}
-use Rattle.board.proofs.BoardLaws.{named-told, Resting, resting, resting-sound, holds-others, nothing-proper}
+use Rattle.packets.proofs.IdentityLaws.{named-told}
+use Rattle.board.proofs.BoardLaws.{Resting, resting, resting-sound, holds-others, nothing-proper}
 use Rattle.board.proofs.Numbers.{eraseText, erasePacket, request-bytes}
 use Rattle.board.proofs.PacketFed.{call-done, packet-answered, fed-alike}
 

@@ -1,8 +1,4 @@
-pub mod EffectLaws
-pub mod DecisionLaws
 pub mod BoardLaws
-pub mod ReplyLaws
-pub mod SendLaws
 pub mod RefusalLaws
 pub mod Bounds
 pub mod PacketFed

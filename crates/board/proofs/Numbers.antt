@@ -13,9 +13,10 @@ use Rattle.store.proofs.StoreLaws.{both}
 use Rattle.erase.specs.Board.{Identity}
 use Rattle.erase.specs.Calls.{same}
 use Rattle.erase.proofs.FirstBytes.{same-eq}
-use Rattle.board.specs.Calls.{isIdentity, replyWith, eraseReply}
+use Rattle.packets.specs.Packets.{isIdentity, replyWith}
+use Rattle.board.specs.Calls.{eraseReply}
 use Rattle.board.specs.Demand3.{unusedBytes, eraseReplyBytes, eraseRequest}
-use Rattle.board.proofs.BoardLaws.{named-told}
+use Rattle.packets.proofs.IdentityLaws.{named-told}
 
 -- a test that each number below n passes
 abbrev each : (ℕ → Bool) → ℕ → Bool

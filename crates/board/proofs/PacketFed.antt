@@ -15,7 +15,8 @@ use Rattle.receiver.proofs.Theorems.{packet-received}
 use Rattle.erase.specs.Board.{Identity, Answer, waiting, Erase, idle}
 use Rattle.erase.specs.Calls.{isShort, isSound, callOn, onCall}
 use Rattle.erase.specs.Lists.{call, seen, run}
-use Rattle.board.specs.Calls.{Call, byte, BoardState, BoardOutcome, holding, lends, onPacket, onReceipt, does, thisBoard}
+use Rattle.packets.specs.Packets.{BoardState, BoardOutcome, holding, onPacket}
+use Rattle.board.specs.Calls.{Call, byte, lends, onReceipt, does, thisBoard}
 use Rattle.board.specs.Demand3.{Events, Trace, answersIn}
 use Rattle.board.specs.Fed.{fed, waits, seenThen}
 use Rattle.board.proofs.BoardLaws.{Resting, resting, resting-sound, holds-others}

@@ -16,26 +16,8 @@ use Rattle.erase.specs.Board.{Identity, waiting, refused, idle, pending}
 use Rattle.erase.specs.Calls.{refuse, stepOn, onCall, onStep}
 use Rattle.erase.proofs.Steps.{Called, Stepped, refuses, does, clears, called, stepped, step-clears-or-ends}
 use Rattle.actions.specs.Act.{Effect, replies, begins, effect}
-use Rattle.board.specs.Calls.{
-  Call,
-  byte,
-  gap,
-  BoardState,
-  BoardOutcome,
-  answers,
-  Addressee,
-  own,
-  all,
-  another,
-  addressee,
-  toOwn,
-  toAll,
-  onPacketTo,
-  onPacket,
-  onReceipt,
-  lastAnswer,
-  thisBoard,
-}
+use Rattle.packets.specs.Packets.{BoardState, BoardOutcome, answers, Addressee, own, all, another, addressee, toOwn, toAll, onPacketTo, onPacket}
+use Rattle.board.specs.Calls.{Call, byte, gap, onReceipt, lastAnswer, thisBoard}
 use Rattle.board.specs.Calls as board
 use Rattle.board.proofs.BoardLaws.{nothing-is}
 

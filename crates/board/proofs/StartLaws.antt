@@ -18,7 +18,8 @@ use Rattle.wire.proofs.DigitLaws.{cond-by}
 use Rattle.store.proofs.StoreLaws.{both}
 use Rattle.erase.specs.Calls.{mark, isShort, refuse, atRest, isSound, onCall, onStep, onStart}
 use Rattle.store.specs.Layout.{unusedStore, fieldsInRange}
-use Rattle.board.specs.Calls.{Call, BoardState, isIdentity, lends, startOther, thisBoard}
+use Rattle.packets.specs.Packets.{BoardState, isIdentity}
+use Rattle.board.specs.Calls.{Call, lends, startOther, thisBoard}
 use Rattle.board.proofs.BoardLaws.{board-laws}
 
 -- ---- identities out of range

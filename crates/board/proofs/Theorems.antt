@@ -22,7 +22,8 @@ use Rattle.erase.proofs.Laws.{Kept}
 use Rattle.erase.proofs.Kept.{call-keeps, step-keeps}
 use Rattle.erase.proofs.Steps.{step-stores-one, pending-call-stores-none}
 use Rattle.actions.specs.Act.{replies, says, isErase, getEffect, setEffect, effectOf}
-use Rattle.board.specs.Calls.{Call, BoardState, BoardOutcome, answers, thisBoard}
+use Rattle.packets.specs.Packets.{BoardState, BoardOutcome, answers}
+use Rattle.board.specs.Calls.{Call, thisBoard}
 use Rattle.board.proofs.BoardLaws.{board-laws}
 use Rattle.board.proofs.RefusalLaws.{Refused, unchanged, emptied, call-refused, step-refused}
 use Rattle.board.proofs.Bounds.{Replied, Sends, call-bounded, step-bounded}

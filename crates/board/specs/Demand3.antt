@@ -14,7 +14,8 @@ use Rattle.plan.specs.Stores.{applied}
 use Rattle.erase.specs.Board.{Identity, Answer, waiting, silent, begun, more, ended, refused, reply, idle, Started, board, noBoard, after}
 use Rattle.erase.specs.Calls.{isSound, onStart}
 use Rattle.erase.specs.Lists.{Event, call, step, cut, Seen, answered, started, unstarted, AllStarted, run, Acceptance, traceAfter, identity, left, ends}
-use Rattle.board.specs.Calls.{Call, byte, gap, BoardState, thisBoard}
+use Rattle.packets.specs.Packets.{BoardState}
+use Rattle.board.specs.Calls.{Call, byte, gap, thisBoard}
 
 abbrev pub Events : Type 0
 Events = List (Event Call)

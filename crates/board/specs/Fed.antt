@@ -3,7 +3,8 @@ use mathlib.Core.List.{List, [], _∷_}
 use Prim.Native.Nat.{ℕ, zero, suc}
 use Rattle.erase.specs.Board.{Identity, waiting, after}
 use Rattle.erase.specs.Lists.{call, answered, seen, run}
-use Rattle.board.specs.Calls.{byte, BoardOutcome, thisBoard}
+use Rattle.packets.specs.Packets.{BoardOutcome}
+use Rattle.board.specs.Calls.{byte, thisBoard}
 use Rattle.board.specs.Demand3.{Events, Trace}
 
 -- bytes, one call each; the first is lent the buffer k, the next k + 1

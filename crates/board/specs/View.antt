@@ -1,21 +1,20 @@
 -- What the board's values in code mean. Arrays are seen through their counts.
 use mathlib.Core.Bool.{Bool, true, _&&_}
-use mathlib.Core.List.{List, [], _∷_, _++_}
+use mathlib.Core.List.{List, []}
 use mathlib.Core.Path.{_≡_}
 use Prim.Native.Nat.{ℕ, _≤_}
 use lib.Dec.{leb, eqb}
 use lib.ListN.{length, take, replicate}
 use Rattle.wire.specs.Refusal.{numberOf}
-use Rattle.store.specs.Layout.{fieldsInRange, unusedStore}
+use Rattle.store.specs.Layout.{unusedStore}
 use Rattle.store.specs.declared.contents.Text.{Text}
 use Rattle.wire.specs.Judge.{Whole}
 use Rattle.erase.specs.Board as erase
 use Rattle.erase.specs.Calls.{mark, firstBytes, same, isSound, isSoundAs}
-use Rattle.actions.specs.View.{seenText, identityOf, Ready}
-use Rattle.board.specs.Calls as calls
-use Rattle.board.specs.Calls.{BoardOutcome, BoardState, thisBoard}
-use Rattle.board.specs.declared.packet.Addressee.{Addressee}
-use Rattle.board.specs.declared.packet.Acted.{Acted}
+use Rattle.actions.specs.View.{identityOf}
+use Rattle.packets.specs.Packets.{BoardState}
+use Rattle.packets.specs.View.{Result, Addressed}
+use Rattle.board.specs.Calls.{thisBoard}
 use Rattle.board.specs.declared.board.Erase.{Erase}
 use Rattle.board.specs.declared.board.Board.{Board}
 use Rattle.board.specs.declared.board.Answer.{Answer}
@@ -51,16 +50,6 @@ kindOf erase.more = 3
 kindOf erase.ended = 4
 kindOf (erase.refused n) = 5
 kindOf (erase.reply n) = 6
-
--- what a call leaves: answer, board, store and lent buffer
-pub record Result : Type 0 where
-  pub answer : erase.Answer ℕ
-  pub state : BoardState
-  pub store : List ℕ
-  pub buffer : List ℕ
-
-abbrev pub result : BoardOutcome → List ℕ → Result
-result o m = record { answer = o .answer; state = o .state; store = erase.after o m; buffer = o .buffer }
 
 abbrev pub gave : Done → List ℕ → List ℕ → Result
 gave d m lent = record { answer = answerOf (d .answer); state = stateOf (d .board); store = m; buffer = lent }
@@ -108,27 +97,6 @@ soundWith held e m = eqb (length m) 128 && isSoundAs thisBoard (eraseOf e) held 
 -- a pending erase: mark E7h, nothing held, place 1 to 128, bytes 1 to p - 1 as unused
 abbrev pub pendingFits : ℕ → ℕ → List ℕ → Bool
 pendingFits len place m = eqb (mark m) 0xE7 && eqb len 0 && leb 1 place && leb place 128 && same (firstBytes place m) (firstBytes place unusedStore)
-
--- ---- a packet
-
-abbrev pub addresseeOf : Addressee → calls.Addressee
-addresseeOf Addressee.Own = calls.own
-addresseeOf Addressee.All = calls.all
-addresseeOf Addressee.Another = calls.another
-
--- a board that a packet may act on, with its store and a lent buffer
-pub record Addressed (id : ℕ) (serial model : Text) (m lent : List ℕ) : Type 0 where
-  pub known : id ≤ 8
-  pub serial-few : serial .count ≤ 16
-  pub model-few : model .count ≤ 16
-  pub ready : Ready m
-  pub room : 64 ≤ length lent
-
-abbrev pub acted : Acted → erase.Identity → List ℕ → List ℕ → Result
-acted Acted.Refused i m lent = record { answer = erase.refused 8; state = calls.holding i []; store = m; buffer = lent }
-acted Acted.Silent i m lent = record { answer = erase.silent; state = calls.holding i []; store = m; buffer = lent }
-acted (Acted.Begun owed) i m lent = record { answer = erase.begun; state = record { ident = i; held = []; erase = erase.pending 1 owed }; store = m; buffer = lent }
-acted (Acted.Reply n) i m lent = record { answer = erase.reply n; state = calls.holding i []; store = m; buffer = lent }
 
 -- ---- inner calls
 

@@ -6,15 +6,16 @@ ghost use lib.ListN.{length, getD, set, take};
 ghost use Rattle.store.specs.Layout.{unusedStore};
 ghost use Rattle.erase.specs.Calls.{isSound, onCall, onStep, onStart};
 ghost use Rattle.actions.specs.View.{seenText};
+ghost use Rattle.packets.specs.Packets.{onPacket};
 ghost use Rattle.board.specs.Calls as calls;
 ghost use Rattle.board.specs.Calls.{thisBoard};
-ghost use Rattle.board.specs.View.{stateOf, answerOf, kindOf, gave, result, started, noBoard, givenIdentity, Refusing, freshState, leftState, Accepting, Acting};
-use crate::packet;
-use crate::packet::Acted;
+ghost use Rattle.packets.specs.View.{result};
+ghost use Rattle.board.specs.View.{stateOf, answerOf, kindOf, gave, started, noBoard, givenIdentity, Refusing, freshState, leftState, Accepting, Acting};
 use crate::sound;
 use messages::message::Outcome;
 use messages::message::Parameter;
 use messages::message::Reply;
+use packets::Acted;
 use plan::Plan;
 use receiver::Progress;
 use store::contents::Text;
@@ -268,12 +269,12 @@ impl Board {
     // A good packet: the first n bytes of the array.
     fn acts(self, n: usize, store: &mut [u8], reply: &mut [u8]) -> Done
         requires { ⌜ Acting self n (now store) (now reply) ⌝ }
-        ensures { λ r. ⌜ gave r (now (store .exit)) (now (reply .exit)) ≡ result (calls.onPacket (stateOf self .ident) (now (store .entry)) (take n (self .held)) (now (reply .entry))) (now (store .entry)) ⌝ }
+        ensures { λ r. ⌜ gave r (now (store .exit)) (now (reply .exit)) ≡ result (onPacket (stateOf self .ident) (now (store .entry)) (take n (self .held)) (now (reply .entry))) (now (store .entry)) ⌝ }
     {
         let serial = self.serial;
         let model = self.model;
         let held = self.held;
-        match packet::on_packet(self.id, serial, model, &held, n, store, reply) {
+        match packets::on_packet(self.id, serial, model, &held, n, store, reply) {
             Acted::Refused => {
                 return self.left(Erase::Idle, Answer::Refused(Refusal::Destination));
             }
@@ -336,7 +337,7 @@ impl Board {
             largest: 1,
             value: 1,
         };
-        let n = packet::send(
+        let n = packets::send(
             self.id,
             Reply::Set(Outcome::Acknowledged, parameter),
             [0u8; 16],

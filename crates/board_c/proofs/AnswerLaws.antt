@@ -13,8 +13,10 @@ use Rattle.wire.specs.Refusal.{numberOf}
 use Rattle.wire.specs.declared.refusal.Refusal.{Refusal}
 use Rattle.erase.specs.Board as erase
 use Rattle.erase.specs.Calls.{isShort, refuse, onCall, onStep}
-use Rattle.board.specs.Calls.{Call, BoardState, BoardOutcome, lends, thisBoard}
-use Rattle.board.specs.View.{stateOf, answerOf, kindOf, gave, result, Result}
+use Rattle.packets.specs.Packets.{BoardState, BoardOutcome}
+use Rattle.board.specs.Calls.{Call, lends, thisBoard}
+use Rattle.packets.specs.View.{result, Result}
+use Rattle.board.specs.View.{stateOf, answerOf, kindOf, gave}
 use Rattle.board.specs.declared.board.Answer.{Answer}
 use Rattle.board.proofs.board.Answer.{the-type}
 use Rattle.board.specs.declared.board.Board.{Board}

@@ -6,7 +6,8 @@ use mathlib.Core.Path.{_≡_, refl}
 use borrow.Author.Tests.{ne-eqb}
 use lib.ListN.{length}
 use Rattle.erase.specs.Calls.{isShort, refuse, onCall, onStep}
-use Rattle.board.specs.Calls.{Call, isIdentity, lends, thisBoard}
+use Rattle.packets.specs.Packets.{isIdentity}
+use Rattle.board.specs.Calls.{Call, lends, thisBoard}
 use Rattle.board.specs.View.{stateOf, noBoard}
 use Rattle.board.specs.declared.board.Board.{Board}
 use Rattle.board.proofs.StartLaws.{no-id, unnamed-call-refused, unnamed-step-refused}

@@ -6,7 +6,7 @@ use Prim.Native.Nat.{ℕ}
 use lib.Dec.{eqb, leb}
 use lib.ListN.{length}
 use Rattle.erase.specs.Board.{Answer, waiting, silent, begun, more, ended, refused, reply, Started, board, noBoard, after}
-use Rattle.board.specs.Calls.{BoardState, BoardOutcome}
+use Rattle.packets.specs.Packets.{BoardState, BoardOutcome}
 use Rattle.board.specs.View.{kindOf}
 use Rattle.store.specs.Layout.{unusedStore}
 use Rattle.board_c.specs.State.{stateIn}

@@ -6,7 +6,7 @@ use Prim.Native.Nat.{ℕ}
 use lib.Dec.{eqb}
 use lib.ListN.{length, getD, take, drop}
 use Rattle.store.specs.declared.contents.Text.{Text}
-use Rattle.board.specs.Calls.{BoardState}
+use Rattle.packets.specs.Packets.{BoardState}
 use Rattle.board.specs.View.{stateOf, noBoard}
 use Rattle.board.specs.declared.board.Board.{Board}
 use Rattle.board.specs.declared.board.Erase.{Erase}

@@ -25,7 +25,8 @@ use Rattle.store.specs.Layout.{fieldsInRange, fieldStores, unusedStore}
 use Rattle.store.specs.Settings.{settingAt, current}
 use Rattle.store.specs.Contents.{isOn}
 use Rattle.actions.specs.Act.{replies, getEffect, setEffect, powerReadEffect, effectOf, effect}
-use Rattle.board.specs.Calls.{isIdentity, replyWith, replyFrom, eraseReply, addressee, toOwn, onPacketTo, onPacket, BoardOutcome, thisBoard}
+use Rattle.packets.specs.Packets.{isIdentity, replyWith, replyFrom, addressee, toOwn, onPacketTo, onPacket, BoardOutcome}
+use Rattle.board.specs.Calls.{eraseReply, thisBoard}
 use Rattle.board.specs.Demand3.{unusedBytes}
 use Rattle.board.specs.Fed.{fed, waits, seenThen}
 use Rattle.board.proofs.PacketFed.{packet-fed}

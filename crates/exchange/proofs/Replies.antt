@@ -16,27 +16,10 @@ use Rattle.erase.specs.Calls.{isSoundAs, isSound, refuse, onCall, onStep}
 use Rattle.erase.proofs.Steps.{Called, Stepped, refuses, clears, does, called, stepped, step-clears-or-ends}
 use Rattle.actions.specs.Act.{Effect, replies, begins, effect}
 use Rattle.board.specs.Calls as board
-use Rattle.board.specs.Calls.{
-  byte,
-  BoardState,
-  BoardOutcome,
-  isIdentity,
-  Addressee,
-  own,
-  all,
-  another,
-  addressee,
-  toOwn,
-  toAll,
-  onPacketTo,
-  onPacket,
-  onReceipt,
-  eraseReply,
-  lastAnswer,
-  lastBuffer,
-  thisBoard,
-}
-use Rattle.board.proofs.BoardLaws.{Named, named-told, Resting, resting, whole-is}
+use Rattle.packets.specs.Packets.{BoardState, BoardOutcome, isIdentity, Addressee, own, all, another, addressee, toOwn, toAll, onPacketTo, onPacket}
+use Rattle.board.specs.Calls.{byte, onReceipt, eraseReply, lastAnswer, lastBuffer, thisBoard}
+use Rattle.packets.proofs.IdentityLaws.{Named, named-told}
+use Rattle.board.proofs.BoardLaws.{Resting, resting, whole-is}
 use Rattle.exchange.specs.Demand2.{InBytes, IsRead, RepliesTo}
 use Rattle.exchange.proofs.ReplyLaws.{effect-sayable, reply-is-read}
 

@@ -46,9 +46,9 @@ use Rattle.actions.specs.Act.{
   effectOf,
   effect,
 }
-use Rattle.board.specs.Calls.{replyWith, replyFrom}
-use Rattle.board.proofs.BoardLaws.{Named}
-use Rattle.board.proofs.ReplyLaws.{item-few, reply-size}
+use Rattle.packets.specs.Packets.{replyWith, replyFrom}
+use Rattle.packets.proofs.IdentityLaws.{Named}
+use Rattle.packets.proofs.ReplyLaws.{item-few, reply-size}
 use Rattle.station.specs.Read.{isReplyType, isReplyHeader, isWholeLength, readPacket}
 use Rattle.station.specs.Read as station
 use Rattle.exchange.specs.Demand2.{InBytes, IsRead}

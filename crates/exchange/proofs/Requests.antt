@@ -19,7 +19,8 @@ use Rattle.erase.specs.Board.{Identity}
 use Rattle.erase.specs.Lists.{run}
 use Rattle.actions.specs.Act.{effectOf, effect}
 use Rattle.board.specs.Fed.{fed, waits, seenThen}
-use Rattle.board.specs.Calls.{BoardState, addressee, onPacketTo, onPacket, thisBoard}
+use Rattle.packets.specs.Packets.{BoardState, addressee, onPacketTo, onPacket}
+use Rattle.board.specs.Calls.{thisBoard}
 use Rattle.board.specs.Demand3.{Events}
 use Rattle.board.proofs.PacketFed.{packet-fed}
 use Rattle.station.specs.Encode.{Encoding, sends, refused, addressIn, encodingTo, encodingOf, encoding}

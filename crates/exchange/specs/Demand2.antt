@@ -19,7 +19,8 @@ use Rattle.erase.specs.Calls.{isSound, onCall, onStep}
 use Rattle.erase.specs.Lists.{run}
 use Rattle.actions.specs.Act.{replies, says, effectOf, effect}
 use Rattle.board.specs.Fed.{fed, waits, seenThen}
-use Rattle.board.specs.Calls.{byte, BoardState, BoardOutcome, toOwn, toAll, thisBoard}
+use Rattle.packets.specs.Packets.{BoardState, BoardOutcome, toOwn, toAll}
+use Rattle.board.specs.Calls.{byte, thisBoard}
 use Rattle.board.specs.Demand3.{Events}
 use Rattle.station.specs.Encode.{sends, encoding}
 use Rattle.station.specs.Read as station

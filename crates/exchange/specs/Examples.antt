@@ -11,7 +11,8 @@ use Rattle.messages.specs.Message.Request.{getParameter, setParameter, powerCon
 use Rattle.erase.specs.Board.{Identity, reply, idle, pending}
 use Rattle.erase.specs.Lists.{step, answered, run}
 use Rattle.store.specs.Layout.{unusedStore}
-use Rattle.board.specs.Calls.{BoardState, thisBoard}
+use Rattle.packets.specs.Packets.{BoardState}
+use Rattle.board.specs.Calls.{thisBoard}
 use Rattle.board.specs.Demand3.{unusedBytes}
 use Rattle.station.specs.Encode.{sends, encoding}
 use Rattle.station.specs.declared.encode.Destination.{Destination}

@@ -15,9 +15,11 @@ use Rattle.erase.specs.Board.{Identity, Erase, idle, pending, after}
 use Rattle.erase.specs.Calls.{refuse, isSound, callOn, onCall, onStart}
 use Rattle.erase.specs.Lists.{call, step, cut, answered, unstarted, seen, from, run}
 use Rattle.erase.specs.Lists as lists
-use Rattle.board.specs.Calls.{byte, gap, does, BoardState, BoardOutcome, thisBoard}
+use Rattle.packets.specs.Packets.{BoardState, BoardOutcome}
+use Rattle.board.specs.Calls.{byte, gap, does, thisBoard}
 use Rattle.board.specs.Demand3.{Events}
-use Rattle.board.specs.View.{stateOf, answerOf, Result, result, gave, started}
+use Rattle.packets.specs.View.{Result, result}
+use Rattle.board.specs.View.{stateOf, answerOf, gave, started}
 use Rattle.board.specs.declared.board.Answer.{Answer}
 use Rattle.board.specs.declared.board.Done.{Done}
 use Rattle.board.specs.declared.board.Started.{Started}

@@ -15,7 +15,8 @@ use Rattle.wire.proofs.DigitLaws.{cond-by}
 use Rattle.wire.proofs.PacketLaws.{over-take}
 use Rattle.erase.specs.Board.{Identity}
 use Rattle.erase.specs.Lists.{Event, answered, started, unstarted, seen, run}
-use Rattle.board.specs.Calls.{Call, BoardState, thisBoard}
+use Rattle.packets.specs.Packets.{BoardState}
+use Rattle.board.specs.Calls.{Call, thisBoard}
 use Rattle.board.specs.Demand3.{Events, Trace}
 use Rattle.board.specs.View.{stateOf}
 use Rattle.board.specs.declared.board.Board.{Board}

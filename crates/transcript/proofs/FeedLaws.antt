@@ -13,8 +13,9 @@ use lib.Seq.{take-all, drop-drop, drop-append-seam}
 use Rattle.wire.specs.Packet.{over}
 use Rattle.wire.proofs.PacketLaws.{over-take}
 use Rattle.erase.specs.Calls.{onCall, onStep}
-use Rattle.board.specs.Calls.{byte, BoardState, thisBoard}
-use Rattle.board.specs.View.{Result, result}
+use Rattle.packets.specs.Packets.{BoardState}
+use Rattle.board.specs.Calls.{byte, thisBoard}
+use Rattle.packets.specs.View.{Result, result}
 use Rattle.transcript.specs.Transcript.{isBegun, lineOf, stepped, transcribedFrom, fed, Transcribed, Told}
 
 pub one-step-more : (i : ℕ) (r q p : Result) → q ≡ stepped i r

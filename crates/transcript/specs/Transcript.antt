@@ -10,8 +10,9 @@ use Rattle.wire.specs.Digits.{hexOf}
 use Rattle.wire.specs.Packet.{over}
 use Rattle.erase.specs.Board.{Answer, waiting, silent, begun, more, ended, refused, reply}
 use Rattle.erase.specs.Calls.{onCall, onStep}
-use Rattle.board.specs.Calls.{byte, BoardState, thisBoard}
-use Rattle.board.specs.View.{Result, result}
+use Rattle.packets.specs.Packets.{BoardState}
+use Rattle.board.specs.Calls.{byte, thisBoard}
+use Rattle.packets.specs.View.{Result, result}
 
 -- ---- a line
 

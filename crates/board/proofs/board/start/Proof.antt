@@ -8,10 +8,10 @@ use borrow.Author.Needs.{needs}
 use Rattle.wire.specs.declared.refusal.Refusal.{Refusal}
 use Rattle.erase.specs.Board.{Identity}
 use Rattle.erase.specs.Calls.{erasing}
-use Rattle.board.specs.Calls.{isIdentity}
+use Rattle.packets.specs.Packets.{isIdentity}
 use Rattle.board.specs.View.{givenIdentity}
 use Rattle.board.specs.declared.board.Erase.{Erase}
-use Rattle.board.proofs.BoardLaws.{named-told}
+use Rattle.packets.proofs.IdentityLaws.{named-told}
 use Rattle.board.proofs.CallLaws.{refused-start, fresh-start, start-size, start-marked, start-other, start-unused}
 use Rattle.board.proofs.board.start.Statement.{statement}
 use Rattle.board.proofs.board.start.Tie as tie

@@ -8,7 +8,8 @@ use Rattle.wire.specs.Refusal.{numberOf}
 use Rattle.wire.specs.declared.refusal.Refusal.{Refusal}
 use Rattle.erase.specs.Board as erase
 use Rattle.erase.specs.Calls.{onStart}
-use Rattle.board.specs.Calls.{BoardState, thisBoard}
+use Rattle.packets.specs.Packets.{BoardState}
+use Rattle.board.specs.Calls.{thisBoard}
 use Rattle.board.specs.View.{stateOf, started, startedWith, givenIdentity}
 use Rattle.board.specs.declared.board.Started.{Started}
 use Rattle.board.specs.declared.board.Verdict.{Verdict}

@@ -1,7 +1,7 @@
 -- A plan of one byte, the unused one at the place.
 use native.Mathlib.Omega.{arith}
 use borrow.Author.Needs.{needs}
-use Rattle.board.proofs.CallLaws.{one-ready, one-stored}
+use Rattle.packets.proofs.PlanLaws.{one-ready, one-stored}
 use Rattle.board.proofs.board.Board.clears.Statement.{statement}
 use Rattle.board.proofs.board.Board.clears.Tie as tie
 

@@ -3,7 +3,7 @@ use native.Mathlib.Omega.{arith}
 use borrow.Author.Tests.{not-true, not-false}
 use borrow.Author.Needs.{needs}
 use Rattle.board.specs.Calls.{eraseReply}
-use Rattle.board.proofs.CallLaws.{one-ready, one-stored}
+use Rattle.packets.proofs.PlanLaws.{one-ready, one-stored}
 use Rattle.board.proofs.board.Board.ends.Statement.{statement}
 use Rattle.board.proofs.board.Board.ends.Tie as tie
 

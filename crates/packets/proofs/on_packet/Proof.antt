@@ -4,10 +4,10 @@ use lib.ListN.{take}
 use lib.Seq.{length-take-le}
 use Rattle.actions.specs.View.{identityOf}
 use Rattle.parser.specs.View.{parsed}
-use Rattle.board.proofs.DecisionLaws.{packet-own, packet-all, packet-another}
+use Rattle.packets.proofs.DecisionLaws.{packet-own, packet-all, packet-another}
 use borrow.Author.Needs.{needs}
-use Rattle.board.proofs.packet.on_packet.Statement.{statement}
-use Rattle.board.proofs.packet.on_packet.Tie as tie
+use Rattle.packets.proofs.on_packet.Statement.{statement}
+use Rattle.packets.proofs.on_packet.Tie as tie
 
 slice-aggregate-packet : tie.Need-slice-aggregate-packet
 slice-aggregate-packet c =

@@ -5,9 +5,9 @@ use lib.ListN.{length-map}
 use borrow.Author.Needs.{needs}
 use Rattle.actions.specs.View.{identityOf}
 use Rattle.parser.specs.View.{parsed}
-use Rattle.board.proofs.DecisionLaws.{asked-few, decided-ready, all-begun, all-silent}
-use Rattle.board.proofs.packet.for_all.Statement.{statement}
-use Rattle.board.proofs.packet.for_all.Tie as tie
+use Rattle.packets.proofs.DecisionLaws.{asked-few, decided-ready, all-begun, all-silent}
+use Rattle.packets.proofs.for_all.Statement.{statement}
+use Rattle.packets.proofs.for_all.Tie as tie
 
 decide-requires : tie.Need-decide-requires
 decide-requires c κs = search needs

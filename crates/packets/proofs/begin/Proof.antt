@@ -1,9 +1,9 @@
 -- The plan holds the one entry.
 use borrow.Author.Needs.{needs}
 use native.Mathlib.Omega.{arith}
-use Rattle.board.proofs.CallLaws.{one-ready, one-stored}
-use Rattle.board.proofs.packet.begin.Statement.{statement}
-use Rattle.board.proofs.packet.begin.Tie as tie
+use Rattle.packets.proofs.PlanLaws.{one-ready, one-stored}
+use Rattle.packets.proofs.begin.Statement.{statement}
+use Rattle.packets.proofs.begin.Tie as tie
 
 empty-requires : tie.Need-empty-requires
 empty-requires c κs = search needs

@@ -1,9 +1,9 @@
 -- Each test of the code is one of the definition's.
 use borrow.Author.Needs.{needs}
 use Rattle.wire.proofs.Tests.{tests}
-use Rattle.board.specs.Calls.{addressee}
-use Rattle.board.proofs.packet.addressee_of.Statement.{statement}
-use Rattle.board.proofs.packet.addressee_of.Tie as tie
+use Rattle.packets.specs.Packets.{addressee}
+use Rattle.packets.proofs.addressee_of.Statement.{statement}
+use Rattle.packets.proofs.addressee_of.Tie as tie
 
 add-if1 : tie.Need-add-if1
 add-if1 c = search needs

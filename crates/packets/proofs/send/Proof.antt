@@ -10,10 +10,10 @@ use Rattle.messages.specs.View.{replyOf, Writes}
 use Rattle.messages.proofs.SendLaws.{text-first, text-fits, text-there, text-counted}
 use Rattle.messages.specs.declared.message.Reply.{Reply}
 use Rattle.messages.specs.declared.write.Written.{Written}
-use Rattle.board.specs.Calls.{replyWith}
-use Rattle.board.proofs.SendLaws.{reply-short}
-use Rattle.board.proofs.packet.send.Statement.{statement}
-use Rattle.board.proofs.packet.send.Tie as tie
+use Rattle.packets.specs.Packets.{replyWith}
+use Rattle.packets.proofs.SendLaws.{reply-short}
+use Rattle.packets.proofs.send.Statement.{statement}
+use Rattle.packets.proofs.send.Tie as tie
 
 sent : (r : Reply) (bytes : List ℕ) (w : Written) (before after : List ℕ)
     → Writes (replyType (replyOf r bytes)) (replyText (replyOf r bytes)) w before after → (id n : ℕ) (out filled : List ℕ)

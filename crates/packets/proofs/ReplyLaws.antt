@@ -41,9 +41,9 @@ use Rattle.actions.specs.Act.{
   effectOf,
   effect,
 }
-use Rattle.board.specs.Calls.{isIdentity, replyWith, replyFrom}
-use Rattle.board.proofs.EffectLaws.{FewIn, Few, request-few}
-use Rattle.board.proofs.BoardLaws.{Named, named-told}
+use Rattle.packets.specs.Packets.{isIdentity, replyWith, replyFrom}
+use Rattle.packets.proofs.EffectLaws.{FewIn, Few, request-few}
+use Rattle.packets.proofs.IdentityLaws.{Named, named-told}
 
 -- ---- a reply's packet
 

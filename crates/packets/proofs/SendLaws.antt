@@ -11,7 +11,7 @@ use Rattle.messages.specs.View.{dateAnswerOf, replyOf, replyCount}
 use Rattle.messages.proofs.SendLaws.{Short}
 use Rattle.messages.specs.declared.message.DateAnswer.{DateAnswer}
 use Rattle.messages.specs.declared.message.Reply.{Reply}
-use Rattle.board.proofs.ReplyLaws.{Fitting, name-length}
+use Rattle.packets.proofs.ReplyLaws.{Fitting, name-length}
 
 first-few : (n : ℕ) (bytes : List ℕ) → n ≤ 16 → length (take n bytes) ≤ 16
 first-few n bytes h = rw length-take (omega (arith, min-le-left n (length bytes)))

@@ -5,8 +5,8 @@ use mathlib.Core.Path.{_≡_, _∙_}
 use native.Mathlib.Omega.{arith}
 use lib.ListN.{length}
 use Rattle.wire.specs.Packet.{size, textOf}
-use Rattle.board.proofs.packet.asked_in.Statement.{statement}
-use Rattle.board.proofs.packet.asked_in.Tie as tie
+use Rattle.packets.proofs.asked_in.Statement.{statement}
+use Rattle.packets.proofs.asked_in.Tie as tie
 
 sub-end : tie.Need-sub-end
 sub-end c = search needs

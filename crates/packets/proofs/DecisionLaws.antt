@@ -19,16 +19,16 @@ use Rattle.parser.specs.View.{parsed, parsedWith}
 use Rattle.parser.specs.declared.parse.Parsed.{Parsed}
 use Rattle.parser.specs.declared.parse.ParsedRequest.{ParsedRequest}
 use Rattle.erase.specs.Board.{Identity}
-use Rattle.actions.specs.Act.{effect, replies, begins}
+use Rattle.actions.specs.Act.{effect}
 use Rattle.actions.specs.View.{Decides, Sendable, effectWith}
 use Rattle.actions.specs.View as actions
 use Rattle.actions.specs.declared.Effect.{Effect}
 use Rattle.actions.specs.declared.Decision.{Decision}
-use Rattle.board.specs.Calls.{replyFrom, addressee, toOwn, toAll, onPacketTo, onPacket}
-use Rattle.board.specs.View.{addresseeOf, acted, result}
-use Rattle.board.specs.declared.packet.Addressee.{Addressee}
-use Rattle.board.specs.declared.packet.Acted.{Acted}
-use Rattle.board.proofs.EffectLaws.{Few, Kept, option-keeps}
+use Rattle.packets.specs.Packets.{replyFrom, addressee, toOwn, toAll, onPacketTo, onPacket}
+use Rattle.packets.specs.View.{addresseeOf, acted, result}
+use Rattle.packets.specs.declared.Addressee.{Addressee}
+use Rattle.packets.specs.declared.Acted.{Acted}
+use Rattle.packets.proofs.EffectLaws.{Few, Kept, option-keeps}
 
 -- ---- a tag beside a request
 
