@@ -1,0 +1,78 @@
+# The programs bench and boardsim, in C over the proved archives of the crates station_c and board_c.
+#
+#   make           proves what the archives need, writes them and builds the programs into target/host
+#   make run       plays an erase that loses its power halfway, without hardware
+#   make test      the gate: every proof from nothing and every test
+#   make install   PREFIX=/usr/local: programs, manual pages, headers, archives and a pkg-config file
+#   make clean     removes what make wrote; what is proved stays proved
+#
+# It needs rt (the Rattle toolchain), gcc, make, bash and coreutils, on x86-64.
+
+RT = rt
+CC = gcc
+CFLAGS = -O2 -g
+WARNINGS = -Wall -Wextra -Wpedantic -Werror
+PREFIX = /usr/local
+DESTDIR =
+VERSION = 1.0
+OUT = target/host
+
+# Each archive shows only the functions of its header; the crates that both are made of are hidden in them. So one program can link both.
+STATION = target/staticlib/libstation_c.a
+BOARD = target/staticlib/libboard_c.a
+
+PARTS = bench command decode erase fields help inside line options patience port port_serial port_tcp reply request say show sim \
+        store_file talk words
+BENCH_OBJECTS = $(PARTS:%=$(OUT)/%.o)
+BOARDSIM_OBJECTS = $(OUT)/boardsim.o $(OUT)/sim.o
+CRATE_FILES := crates.txt $(shell find crates -name must-fail -prune -o -type f -print)
+
+.PHONY: all run test install clean
+.DELETE_ON_ERROR:
+
+all: $(OUT)/bench $(OUT)/boardsim
+
+$(OUT)/bench: $(BENCH_OBJECTS) $(STATION) $(BOARD)
+	$(CC) $(CFLAGS) -o $@ $^
+
+$(OUT)/boardsim: $(BOARDSIM_OBJECTS) $(BOARD)
+	$(CC) $(CFLAGS) -o $@ $^
+
+# Answers bench with any bytes, for host/check_bench.
+$(OUT)/test_peer: $(OUT)/test_peer.o
+	$(CC) $(CFLAGS) -o $@ $^
+
+vpath %.c host/bench host/boardsim host/test
+
+$(OUT)/%.o: %.c $(wildcard host/*.h host/*/*.h) | $(OUT)
+	$(CC) -std=c11 $(WARNINGS) -Ihost -Ihost/boardsim $(CFLAGS) -c -o $@ $<
+
+$(OUT):
+	mkdir -p $@
+
+# rt proves one crate at a time, so the archives are made one after the other.
+target/staticlib/lib%.a: $(CRATE_FILES)
+	@command -v $(RT) >/dev/null || { echo "rt, the Rattle toolchain, is not in the PATH: install it and try again" >&2; exit 1; }
+	$(RT) staticlib $*
+	@touch $@
+
+$(BOARD): | $(STATION)
+
+run: all
+	host/story $(OUT)
+
+test:
+	.ci/run
+
+INSTALLED = $(DESTDIR)$(PREFIX)
+
+install: all
+	install -d $(INSTALLED)/bin $(INSTALLED)/include/pactosilve $(INSTALLED)/lib/pkgconfig $(INSTALLED)/share/man/man1
+	install -m 755 $(OUT)/bench $(OUT)/boardsim $(INSTALLED)/bin
+	install -m 644 host/station.h host/board.h $(INSTALLED)/include/pactosilve
+	install -m 644 $(STATION) $(BOARD) $(INSTALLED)/lib
+	install -m 644 host/man/bench.1 host/man/boardsim.1 $(INSTALLED)/share/man/man1
+	sed -e 's|@PREFIX@|$(PREFIX)|' -e 's|@VERSION@|$(VERSION)|' host/pactosilve.pc.in >$(INSTALLED)/lib/pkgconfig/pactosilve.pc
+
+clean:
+	rm -rf $(OUT) $(STATION) $(BOARD)

@@ -1,0 +1,105 @@
+/* A simulated board inside this process, as one end of a line. */
+#include "inside.h"
+
+#include "say.h"
+#include "sim.h"
+#include "store_file.h"
+
+#include <stdlib.h>
+#include <string.h>
+
+enum { INSIDE_ID = 1 };
+
+static const char serial[] = "SIM-0001", model[] = "SIMULATED";
+
+struct inside {
+    struct sim sim;
+    uint8_t unused[SIM_STORE_SIZE];    /* the store, where there is no file */
+    uint8_t *store;                    /* the store */
+    int file;                          /* -1 where there is none */
+    uint8_t out[2 * BOARD_REPLY_ROOM]; /* replies that were not taken yet, from out_at to out_end */
+    size_t out_at, out_end;
+};
+
+/* What follows from an answer: a reply is kept for the line, and an erase runs to its end. */
+static void follow(struct inside *inside, uint8_t answer)
+{
+    struct sim *sim = &inside->sim;
+
+    if (answer == BOARD_BEGUN)
+        answer = BOARD_MORE;
+    while (answer == BOARD_MORE)
+        answer = sim_step(sim);
+    if (inside->out_at == inside->out_end)
+        inside->out_at = inside->out_end = 0;
+    if (answer == BOARD_REPLY && sim->reply_len <= sizeof inside->out - inside->out_end) {
+        memcpy(inside->out + inside->out_end, sim->reply, sim->reply_len);
+        inside->out_end += sim->reply_len;
+    }
+}
+
+/* Says why there is no board. */
+static struct inside *give_up(struct inside *inside, const char *store_file, const char *why)
+{
+    say_error(STATUS_NO_REPLY, "everything; there is no simulated board",
+              "name another file: where there is none, an unused store is made", "the store '%s' can't be used: %s",
+              store_file != NULL ? store_file : "in memory", why);
+    if (inside->file >= 0)
+        store_file_close(inside->store, inside->file);
+    free(inside);
+    return NULL;
+}
+
+struct inside *inside_open(const char *store_file)
+{
+    struct inside *inside = calloc(1, sizeof *inside);
+    const char *why = NULL;
+    uint8_t refusal;
+
+    if (inside == NULL) {
+        say_error(STATUS_NO_REPLY, "everything", "end other programs and try again", "there is no memory left");
+        return NULL;
+    }
+    inside->file = -1;
+    inside->store = inside->unused;
+    board_unused(inside->unused, sizeof inside->unused);
+    if (store_file != NULL)
+        inside->store = store_file_open(store_file, &inside->file, &why);
+    if (inside->store == NULL) {
+        inside->file = -1;
+        return give_up(inside, store_file, why);
+    }
+    refusal = sim_start(&inside->sim, inside->store, INSIDE_ID, (const uint8_t *)serial, strlen(serial), (const uint8_t *)model,
+                        strlen(model));
+    if (refusal != 0)
+        return give_up(inside, store_file, sim_refusal_text(refusal));
+    if (sim_is_erasing(&inside->sim))
+        follow(inside, BOARD_BEGUN);
+    return inside;
+}
+
+void inside_take(struct inside *inside, const uint8_t *bytes, size_t count)
+{
+    for (size_t i = 0; i < count; i++)
+        follow(inside, sim_byte(&inside->sim, bytes[i]));
+}
+
+bool inside_give(struct inside *inside, uint8_t *b)
+{
+    if (inside->out_at == inside->out_end)
+        return false;
+    *b = inside->out[inside->out_at++];
+    return true;
+}
+
+void inside_gap(struct inside *inside)
+{
+    sim_gap(&inside->sim);
+}
+
+void inside_close(struct inside *inside)
+{
+    if (inside->file >= 0)
+        store_file_close(inside->store, inside->file);
+    free(inside);
+}

@@ -1,0 +1,177 @@
+/*
+ * Requests and replies over a port.
+ *
+ * A packet ends where its length digits say. A CR, 03h or 01h before that is a byte like others: a check code may be one.
+ */
+#include "line.h"
+
+#include "patience.h"
+#include "say.h"
+
+#include <string.h>
+
+enum {
+    SOH = 0x01,
+    HEADER_LEN = 7,
+    REST_MS = 120,   /* a board forgets half a packet after 100 ms of silence */
+    NOISE_MS = 1000, /* a line that never rests is spoken to after this */
+    SEND_MS = 2000   /* the time that sending a packet may take */
+};
+
+/* ---- what comes */
+
+static int digit_value(uint8_t digit)
+{
+    if (digit >= '0' && digit <= '9')
+        return digit - '0';
+    if (digit >= 'A' && digit <= 'F')
+        return digit - 'A' + 10;
+    return -1;
+}
+
+/* How many bytes a packet has, by its header's length digits; 0 where they are bad. */
+static size_t packet_size(const struct packet *packet)
+{
+    int high = digit_value(packet->bytes[5]), low = digit_value(packet->bytes[6]), length = 16 * high + low;
+
+    return high < 0 || low < 0 || length < 4 || length > 64 ? 0 : (size_t)length + 9;
+}
+
+/* Bytes that no packet begins with. */
+struct stray {
+    uint8_t bytes[16];
+    size_t count;
+};
+
+/* Shows the stray bytes that were kept. */
+static void flush_stray(const struct line *line, struct stray *stray)
+{
+    if (line->verbose && stray->count > 0)
+        say_bytes("<-", stray->bytes, stray->count, "stray, skipped");
+    stray->count = 0;
+}
+
+static void keep_stray(const struct line *line, struct stray *stray, uint8_t b)
+{
+    if (stray->count == sizeof stray->bytes)
+        flush_stray(line, stray);
+    stray->bytes[stray->count++] = b;
+}
+
+/* Takes a byte as port_byte does, and tells each second that passes since `began`. */
+static enum heard patient_byte(struct line *line, uint8_t *b, long long began, long long until)
+{
+    for (;;) {
+        long long passed = (now_ms() - began) / 1000, next = began + (passed + 1) * 1000;
+        bool ticks = line->each_second != NULL && line->port.inside == NULL && next < until;
+        enum heard heard = port_byte(&line->port, b, ticks ? next : until);
+
+        if (heard != HEARD_NOTHING || !ticks)
+            return heard;
+        line->each_second((long)passed + 1, line->about);
+    }
+}
+
+/*
+ * Receives one packet: skips what does not begin with 01h, then takes as many bytes as the length digits say. Where they are bad,
+ * the packet is what comes until the line rests. A packet that is not whole at `until` stays so; its length is 0 where none came.
+ */
+static enum heard receive(struct line *line, struct packet *packet, long long began, long long until)
+{
+    struct stray stray = {.count = 0};
+    enum heard heard;
+    uint8_t b;
+
+    packet->len = 0;
+    for (;;) {
+        bool is_bad = packet->len >= HEADER_LEN && packet_size(packet) == 0;
+
+        heard = patient_byte(line, &b, began, is_bad ? now_ms() + REST_MS : until);
+        if (heard != HEARD_BYTE)
+            break;
+        if (packet->len == 0 && b != SOH) {
+            keep_stray(line, &stray, b);
+            if (now_ms() < until)
+                continue;
+            heard = HEARD_NOTHING; /* the time is over, though bytes still come */
+            break;
+        }
+        flush_stray(line, &stray);
+        packet->bytes[packet->len++] = b;
+        if (packet->len == PACKET_MAX || (packet->len >= HEADER_LEN && packet->len == packet_size(packet)))
+            break;
+    }
+    flush_stray(line, &stray);
+    return heard;
+}
+
+/* ---- what goes */
+
+/* Waits until nothing has come for a while, and drops what comes: it answers nothing that is still to be asked. */
+static void rest(struct line *line)
+{
+    long long latest = now_ms() + NOISE_MS;
+    struct stray stray = {.count = 0};
+    uint8_t b;
+
+    port_tell_gap(&line->port);
+    while (now_ms() < latest && port_byte(&line->port, &b, now_ms() + REST_MS) == HEARD_BYTE)
+        keep_stray(line, &stray, b);
+    flush_stray(line, &stray);
+    line->is_rested = true;
+}
+
+static bool send_packet(struct line *line, const struct packet *packet)
+{
+    if (!line->is_rested)
+        rest(line);
+    if (line->verbose)
+        say_bytes("->", packet->bytes, packet->len, NULL);
+    return port_send(&line->port, packet->bytes, packet->len, now_ms() + SEND_MS);
+}
+
+bool line_tell(struct line *line, const struct packet *packet)
+{
+    bool sent = send_packet(line, packet);
+
+    rest(line); /* the bytes leave before the port is closed */
+    return sent;
+}
+
+/* ---- a request and its reply */
+
+/* Receives packets until one answers the request, is damaged, or the time is over. */
+static enum ending await(struct line *line, const struct request *request, long long limit_ms, struct exchange *exchange)
+{
+    long long began = now_ms(), until = began + limit_ms;
+    enum ending ending = ENDED_SILENT;
+
+    for (;;) {
+        struct packet packet;
+        enum heard heard = receive(line, &packet, began, until);
+        bool is_good;
+
+        if (packet.len == 0)
+            return heard == HEARD_END ? ENDED_CLOSED : ending;
+        exchange->packet = packet;
+        is_good = reply_read(&exchange->reply, packet.bytes, packet.len);
+        if (is_good && !request_is_answered(request, &exchange->reply))
+            ending = ENDED_OTHER;
+        else
+            ending = is_good ? ENDED_ANSWERED : ENDED_DAMAGED;
+        if (line->verbose)
+            say_bytes("<-", packet.bytes, packet.len, ending == ENDED_OTHER ? "answers another request, skipped" : NULL);
+        if (ending != ENDED_OTHER || now_ms() >= until)
+            return ending;
+    }
+}
+
+void line_exchange(struct line *line, const struct request *request, const struct packet *packet, long long limit_ms,
+                   struct exchange *exchange)
+{
+    memset(exchange, 0, sizeof *exchange);
+    exchange->ending = ENDED_UNSENT;
+    if (send_packet(line, packet))
+        exchange->ending = await(line, request, limit_ms, exchange);
+    line->is_rested = exchange->ending == ENDED_ANSWERED;
+}

@@ -1,0 +1,42 @@
+/*
+ * Requests and replies over a port: one request is sent, and replies are cut out of what comes by their length digits.
+ */
+#ifndef LINE_H
+#define LINE_H
+
+#include "port.h"
+#include "reply.h"
+#include "request.h"
+
+struct line {
+    struct port port;
+    bool verbose;                                   /* show the bytes both ways */
+    bool is_rested;                                 /* nothing unexpected can be on its way, and the board holds no half packet */
+    void (*each_second)(long seconds, void *about); /* told while a reply is awaited; may be null */
+    void *about;
+};
+
+/* How an exchange ended. */
+enum ending {
+    ENDED_ANSWERED, /* with the reply to the request */
+    ENDED_DAMAGED,  /* with a packet that is no good reply; its refusal is in the reply's kind */
+    ENDED_SILENT,   /* with no packet until the time limit */
+    ENDED_OTHER,    /* with good replies, but to other requests, until the time limit */
+    ENDED_CLOSED,   /* with the end of the line */
+    ENDED_UNSENT    /* before the request was sent whole */
+};
+
+struct exchange {
+    enum ending ending;
+    struct packet packet; /* as it came: the reply, the damaged one, or the last that answers another request */
+    struct reply reply;
+};
+
+/* Lets the line rest, sends an encoded request and waits for its answer, at most limit_ms. */
+void line_exchange(struct line *line, const struct request *request, const struct packet *packet, long long limit_ms,
+                   struct exchange *exchange);
+
+/* Lets the line rest and sends an encoded request that nobody answers; says whether it went out. */
+bool line_tell(struct line *line, const struct packet *packet);
+
+#endif

@@ -1,0 +1,106 @@
+/* A TCP connection to a board. */
+#define _POSIX_C_SOURCE 200809L
+
+#include "patience.h"
+#include "port.h"
+#include "say.h"
+
+#include <errno.h>
+#include <fcntl.h>
+#include <netdb.h>
+#include <netinet/in.h>
+#include <netinet/tcp.h>
+#include <poll.h>
+#include <signal.h>
+#include <stdio.h>
+#include <string.h>
+#include <sys/socket.h>
+#include <unistd.h>
+
+static const char nothing_sent[] = "everything; nothing was sent";
+static const char check_network[] = "check that the board is on, its network cable, and the address: tcp:HOST or tcp:HOST:PORT";
+
+/* The board's port, where none is named. */
+static const char usual_port[] = "7142";
+
+struct address {
+    char host[256];
+    char port[8];
+};
+
+/* Takes "HOST", "HOST:PORT", "[HOST]" or "[HOST]:PORT" apart; the brackets are for hosts with colons. */
+static bool take_apart(const char *text, struct address *address)
+{
+    const char *begin = text[0] == '[' ? text + 1 : text;
+    const char *end = text[0] == '[' ? strchr(text, ']') : strrchr(text, ':');
+    const char *rest;
+    size_t len;
+
+    if (text[0] == '[' && end == NULL)
+        return false;
+    if (end == NULL)
+        end = text + strlen(text);
+    rest = text[0] == '[' ? end + 1 : end;
+    len = (size_t)(end - begin);
+    if (len == 0 || len >= sizeof address->host)
+        return false;
+    memcpy(address->host, begin, len);
+    address->host[len] = '\0';
+    if (*rest == '\0')
+        rest = NULL;
+    else if (*rest++ != ':' || *rest == '\0' || strlen(rest) >= sizeof address->port)
+        return false;
+    snprintf(address->port, sizeof address->port, "%s", rest != NULL ? rest : usual_port);
+    return true;
+}
+
+/* Connects to one of the addresses of a host, at most until a moment. */
+static int connect_to(const struct addrinfo *to, long long until)
+{
+    int fd = socket(to->ai_family, to->ai_socktype, to->ai_protocol), wrong = 0, on = 1;
+    socklen_t len = sizeof wrong;
+
+    if (fd < 0)
+        return -1;
+    if (fcntl(fd, F_SETFL, O_NONBLOCK) != 0 || fcntl(fd, F_SETFD, FD_CLOEXEC) != 0)
+        wrong = errno;
+    else if (connect(fd, to->ai_addr, to->ai_addrlen) != 0 && errno != EINPROGRESS)
+        wrong = errno;
+    else if (!wait_ready(fd, POLLOUT, until))
+        wrong = ETIMEDOUT;
+    else if (getsockopt(fd, SOL_SOCKET, SO_ERROR, &wrong, &len) != 0)
+        wrong = errno;
+    if (wrong == 0) {
+        setsockopt(fd, IPPROTO_TCP, TCP_NODELAY, &on, sizeof on); /* a packet waits for no other */
+        return fd;
+    }
+    close(fd);
+    errno = wrong;
+    return -1;
+}
+
+enum status port_open_tcp(const char *host_and_port, long long limit_ms, int *fd)
+{
+    struct addrinfo wanted = {.ai_socktype = SOCK_STREAM, .ai_flags = AI_NUMERICSERV}, *found;
+    long long until = now_ms() + limit_ms;
+    struct address address;
+    int wrong;
+
+    if (!take_apart(host_and_port, &address))
+        return say_usage("give tcp:HOST or tcp:HOST:PORT; a host with colons stands in brackets", "'tcp:%s' names no host and port",
+                         host_and_port);
+    wrong = getaddrinfo(address.host, address.port, &wanted, &found);
+    if (wrong != 0)
+        return say_error(STATUS_NO_REPLY, nothing_sent, check_network, "'%s' port '%s' can't be looked up: %s", address.host,
+                         address.port, gai_strerror(wrong));
+    signal(SIGPIPE, SIG_IGN); /* a closed connection is told by the write */
+    *fd = -1;
+    for (const struct addrinfo *to = found; to != NULL && *fd < 0; to = to->ai_next)
+        *fd = connect_to(to, until);
+    wrong = errno;
+    freeaddrinfo(found);
+    if (*fd < 0)
+        return say_error(STATUS_NO_REPLY, nothing_sent, check_network, "no connection to '%s' port %s: %s", address.host,
+                         address.port, strerror(wrong));
+    return STATUS_DONE;
+}

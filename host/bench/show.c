@@ -1,0 +1,182 @@
+/* A reply for people and for programs. */
+#include "show.h"
+
+#include "fields.h"
+#include "words.h"
+
+#include <stdio.h>
+#include <string.h>
+
+/* ---- for people */
+
+static void add_value(struct text *text, const uint16_t *n)
+{
+    const char *words = value_words(n[2], n[3], n[6]);
+
+    text_add(text, "%u", n[6]);
+    if (words != NULL)
+        text_add(text, " (%s)", words);
+}
+
+/* Adds a serial number, a model or a tag. */
+static void add_item(struct text *text, const char *name, const struct reply *reply)
+{
+    if (reply->count == 0) {
+        text_add(text, "%s is empty", name);
+        return;
+    }
+    text_add(text, "%s is ", name);
+    text_add_quoted(text, reply->bytes, reply->count);
+}
+
+/* What a write has done. */
+static void add_change(struct text *text, const struct reply *reply)
+{
+    const uint16_t *n = reply->numbers;
+
+    switch (reply->kind) {
+    case STATION_REPLY_SET:
+        add_setting(text, n[2], n[3]);
+        text_add(text, " set to ");
+        add_value(text, n);
+        break;
+    case STATION_REPLY_POWER_CONTROL:
+        text_add(text, "power set to %s", mode_words(n[2]));
+        break;
+    case STATION_REPLY_DATE_WRITE:
+        text_add(text, "date set to ");
+        add_date(text, n + 2);
+        break;
+    default:
+        text_add(text, "tag set to ");
+        text_add_quoted(text, reply->bytes, reply->count);
+        text_add(text, "; the tag before it is now the former tag");
+        break;
+    }
+}
+
+void add_sentence(struct text *text, const struct reply *reply)
+{
+    const uint16_t *n = reply->numbers;
+
+    switch (reply->kind) {
+    case STATION_REPLY_GET:
+        add_setting(text, n[2], n[3]);
+        text_add(text, " is ");
+        add_value(text, n);
+        text_add(text, ", at most %u", n[5]);
+        break;
+    case STATION_REPLY_POWER_READ:
+        text_add(text, "power is %s", mode_words(n[2]));
+        break;
+    case STATION_REPLY_DATE_READ:
+        text_add(text, "date is ");
+        add_date(text, n + 1);
+        break;
+    case STATION_REPLY_SERIAL:
+        add_item(text, "serial number", reply);
+        break;
+    case STATION_REPLY_MODEL:
+    case STATION_REPLY_TAG:
+    case STATION_REPLY_FORMER_TAG:
+        add_item(text, kind_words(reply->kind), reply);
+        break;
+    default:
+        add_change(text, reply);
+        break;
+    }
+}
+
+void show_list(const struct reply *reply)
+{
+    struct fields fields = fields_of(reply);
+    struct text quoted = {.len = 0};
+
+    printf("%-9s monitor %u\n", "sender", reply_sender(reply));
+    printf("%-9s %s\n", "kind", kind_words(reply->kind));
+    for (size_t i = 0; i < fields.count; i++) {
+        const struct field *field = &fields.list[i];
+
+        printf("%-9s %u (%0*Xh)", field->key, field->number, field->digits, field->number);
+        if (field->words[0] != '\0')
+            printf(": %s", field->words);
+        putchar('\n');
+    }
+    if (fields.has_bytes) {
+        text_add_quoted(&quoted, reply->bytes, reply->count);
+        printf("%-9s %s, %zu bytes\n", "text", quoted.chars, reply->count);
+    }
+}
+
+/* ---- for programs */
+
+/* Prints bytes as a JSON string whose characters are U+0000 to U+00FF, one a byte. Only ASCII is printed. */
+static void print_json_bytes(const uint8_t *bytes, size_t count)
+{
+    putchar('"');
+    for (size_t i = 0; i < count; i++) {
+        if (bytes[i] == '"' || bytes[i] == '\\')
+            printf("\\%c", bytes[i]);
+        else if (bytes[i] < 0x20 || bytes[i] > 0x7E)
+            printf("\\u%04X", bytes[i]);
+        else
+            putchar(bytes[i]);
+    }
+    putchar('"');
+}
+
+static void print_json_text(const char *key, const char *text)
+{
+    printf(",\"%s\":", key);
+    print_json_bytes((const uint8_t *)text, strlen(text));
+}
+
+static void print_json_hex(const uint8_t *bytes, size_t count)
+{
+    printf(",\"hex\":\"");
+    for (size_t i = 0; i < count; i++)
+        printf("%02X", bytes[i]);
+    putchar('"');
+}
+
+/* Prints the members of a good reply. */
+static void print_json_reply(const struct reply *reply)
+{
+    struct fields fields = fields_of(reply);
+    char key[32];
+
+    printf("{\"monitor\":%u", reply_sender(reply));
+    print_json_text("reply", kind_word(reply->kind));
+    printf(",\"refused\":%s", reply_is_refusal(reply) ? "true" : "false");
+    for (size_t i = 0; i < fields.count; i++) {
+        const struct field *field = &fields.list[i];
+
+        printf(",\"%s\":%u", field->key, field->number);
+        snprintf(key, sizeof key, "%s_words", field->key);
+        if (field->words[0] != '\0')
+            print_json_text(key, field->words);
+    }
+    if (fields.has_bytes) {
+        printf(",\"text\":");
+        print_json_bytes(reply->bytes, reply->count);
+        print_json_hex(reply->bytes, reply->count);
+    }
+}
+
+void show_json(const struct reply *reply, const uint8_t *packet, size_t len, unsigned remarks)
+{
+    if (reply->kind >= STATION_REPLY_NULL) {
+        print_json_reply(reply);
+    } else {
+        printf("{\"refusal\":%u", reply->kind);
+        print_json_text("meaning", refusal_meaning(reply->kind));
+        print_json_hex(packet, len);
+    }
+    if ((remarks & REMARK_SIMULATED) != 0)
+        printf(",\"simulated\":true");
+    if ((remarks & REMARK_ERASED) != 0)
+        printf(",\"erased\":true");
+    if ((remarks & REMARK_READ_BACK) != 0)
+        printf(",\"read_back\":true");
+    printf("}\n");
+}

@@ -1,0 +1,601 @@
+/*
+ * A simulated board on a pseudo-terminal or a TCP port, over a store file that is mapped into memory.
+ *
+ * Each byte that the board stores is in the file's pages at once and outlives this program, however it ends: killing it is a power
+ * cut, and starting it again is the start after that. One thread waits in poll() for the line, for the silence after a byte and
+ * for the next erase step.
+ *
+ * While a reply can't go out because nobody takes it, the line is not read. So at most one reply waits, and none is lost.
+ */
+#define _GNU_SOURCE /* posix_openpt, cfmakeraw, flock, POLLRDHUP */
+
+#include "sim.h"
+
+#include <errno.h>
+#include <fcntl.h>
+#include <getopt.h>
+#include <netdb.h>
+#include <poll.h>
+#include <signal.h>
+#include <stdarg.h>
+#include <stdio.h>
+#include <stdlib.h>
+#include <string.h>
+#include <sys/file.h>
+#include <sys/mman.h>
+#include <sys/socket.h>
+#include <sys/stat.h>
+#include <termios.h>
+#include <time.h>
+#include <unistd.h>
+
+enum status { STATUS_DONE = 0, STATUS_STORE_REFUSED = 1, STATUS_USAGE = 2, STATUS_SYSTEM = 3 };
+
+static const char help[] =
+    "usage: boardsim --store FILE --id N --serial TEXT --model TEXT (--pty | --tcp PORT)\n"
+    "                [--listen ADDRESS] [--step-ms N] [-v]\n"
+    "\n"
+    "A simulated board. It can be killed at any moment, also in an erase, and started again.\n"
+    "\n"
+    "  --store FILE      the board's 128 stored bytes; an unused store is made where there is no such file\n"
+    "  --id N            the monitor ID, 1 to 8\n"
+    "  --serial TEXT     the serial number, 0 to 16 bytes\n"
+    "  --model TEXT      the model, 0 to 16 bytes\n"
+    "  --pty             talk on a pseudo-terminal; its name is printed on a line\n"
+    "  --tcp PORT        talk on a TCP port, to one client at a time; the port is printed on a line; 0: any free port\n"
+    "  --listen ADDRESS  with --tcp: the address to listen on instead of 127.0.0.1; nobody is asked for a password\n"
+    "  --step-ms N       milliseconds before each erase step, 0 to 60000; default 0, as fast as it can\n"
+    "  -v                a line on standard error for each answer other than waiting and more\n"
+    "  --help            this text\n"
+    "\n"
+    "SIGTERM or SIGINT ends it. Exit status: 0 done, 1 the board refused its store, 2 usage, 3 the system refused something.\n";
+
+/* ---- saying what went wrong */
+
+/* Ends the program with a sentence. */
+__attribute__((format(printf, 2, 3), noreturn)) static void end_with(enum status status, const char *format, ...)
+{
+    va_list values;
+
+    fputs("boardsim: ", stderr);
+    va_start(values, format);
+    vfprintf(stderr, format, values);
+    va_end(values);
+    fputc('\n', stderr);
+    if (status == STATUS_USAGE)
+        fputs("boardsim --help tells more.\n", stderr);
+    exit(status);
+}
+
+/* Ends the program where a system call failed. */
+__attribute__((noreturn)) static void end_system(const char *doing, const char *with)
+{
+    end_with(STATUS_SYSTEM, "%s %s: %s", doing, with, strerror(errno));
+}
+
+/* ---- options */
+
+struct options {
+    const char *store, *serial, *model, *port, *address;
+    bool pty, verbose;
+    uint8_t id;
+    int step_ms;
+};
+
+static long number_in(const char *option, const char *text, long first, long last)
+{
+    char *end;
+    long number;
+
+    errno = 0;
+    number = strtol(text, &end, 10);
+    if (errno != 0 || end == text || *end != '\0' || number < first || number > last)
+        end_with(STATUS_USAGE, "--%s takes a number from %ld to %ld, not '%s'", option, first, last, text);
+    return number;
+}
+
+static const char *text_in(const char *option, const char *text)
+{
+    if (strlen(text) > BOARD_TEXT_MAX)
+        end_with(STATUS_USAGE, "--%s takes at most %d bytes, and '%s' has %zu", option, BOARD_TEXT_MAX, text, strlen(text));
+    return text;
+}
+
+static void take_option(struct options *options, int option)
+{
+    switch (option) {
+    case 's':
+        options->store = optarg;
+        break;
+    case 'i':
+        options->id = (uint8_t)number_in("id", optarg, 1, 8);
+        break;
+    case 'n':
+        options->serial = text_in("serial", optarg);
+        break;
+    case 'm':
+        options->model = text_in("model", optarg);
+        break;
+    case 'p':
+        options->pty = true;
+        break;
+    case 't':
+        number_in("tcp", optarg, 0, 65535);
+        options->port = optarg;
+        break;
+    case 'l':
+        options->address = optarg;
+        break;
+    case 'w':
+        options->step_ms = (int)number_in("step-ms", optarg, 0, 60000);
+        break;
+    case 'v':
+        options->verbose = true;
+        break;
+    case 'h':
+        fputs(help, stdout);
+        exit(STATUS_DONE);
+    }
+}
+
+static void check_options(const struct options *options)
+{
+    if (options->store == NULL || options->id == 0 || options->serial == NULL || options->model == NULL)
+        end_with(STATUS_USAGE, "--store, --id, --serial and --model are needed");
+    if (options->pty == (options->port != NULL))
+        end_with(STATUS_USAGE, "one of --pty and --tcp is needed");
+    if (options->address != NULL && options->port == NULL)
+        end_with(STATUS_USAGE, "--listen goes with --tcp");
+}
+
+static struct options options_in(int argc, char **argv)
+{
+    static const struct option known[] = {
+        {"store", required_argument, NULL, 's'},  {"id", required_argument, NULL, 'i'},
+        {"serial", required_argument, NULL, 'n'}, {"model", required_argument, NULL, 'm'},
+        {"pty", no_argument, NULL, 'p'},          {"tcp", required_argument, NULL, 't'},
+        {"listen", required_argument, NULL, 'l'}, {"step-ms", required_argument, NULL, 'w'},
+        {"help", no_argument, NULL, 'h'},         {NULL, 0, NULL, 0},
+    };
+    struct options options = {0};
+    int option;
+
+    opterr = 0;
+    while ((option = getopt_long(argc, argv, "v", known, NULL)) != -1) {
+        if (option == '?')
+            end_with(STATUS_USAGE, "'%s' is no option, or its value is missing", argv[optind - 1]);
+        take_option(&options, option);
+    }
+    if (optind < argc)
+        end_with(STATUS_USAGE, "'%s' is not an option", argv[optind]);
+    check_options(&options);
+    return options;
+}
+
+/* ---- the store file */
+
+static bool write_whole(int file, const uint8_t *bytes, size_t n)
+{
+    while (n > 0) {
+        ssize_t written = write(file, bytes, n);
+
+        if (written < 0 && errno != EINTR)
+            return false;
+        if (written > 0) {
+            bytes += written;
+            n -= (size_t)written;
+        }
+    }
+    return true;
+}
+
+/* Makes an unused store. It gets its name when it is whole, so that a kill leaves no half of it under that name. */
+static void make_store(const char *path)
+{
+    uint8_t unused[SIM_STORE_SIZE];
+    char name[4096];
+    int length = snprintf(name, sizeof name, "%s.XXXXXX", path), file, wrong;
+
+    if (length < 0 || (size_t)length >= sizeof name)
+        end_with(STATUS_SYSTEM, "the store's name is too long");
+    board_unused(unused, sizeof unused);
+    file = mkstemp(name);
+    if (file < 0)
+        end_system("can't make a new store beside", path);
+    if (write_whole(file, unused, sizeof unused) && fchmod(file, 0644) == 0 && fsync(file) == 0 && close(file) == 0 &&
+        rename(name, path) == 0)
+        return;
+    wrong = errno;
+    unlink(name);
+    errno = wrong;
+    end_system("can't make the new store", path);
+}
+
+static int open_store(const char *path)
+{
+    int file = open(path, O_RDWR | O_CLOEXEC);
+
+    if (file < 0 && errno == ENOENT) {
+        make_store(path);
+        file = open(path, O_RDWR | O_CLOEXEC);
+    }
+    if (file < 0)
+        end_system("can't open the store", path);
+    if (flock(file, LOCK_EX | LOCK_NB) != 0) {
+        if (errno == EWOULDBLOCK)
+            end_with(STATUS_SYSTEM, "the store %s is in use by another boardsim: end that one, or name another file", path);
+        end_system("can't lock the store", path);
+    }
+    return file;
+}
+
+/* Ends the program where the board refuses its store. */
+__attribute__((noreturn)) static void end_refused(const char *path, uint8_t refusal)
+{
+    const char *advice = refusal == BOARD_REFUSED_NOT_A_STORE
+                             ? "Name another file; where there is none, an unused store is made"
+                             : "Put a good copy in its place, or move the file away, and an unused store is made";
+
+    end_with(STATUS_STORE_REFUSED, "%s: refused with %d: %s. %s", path, refusal, sim_refusal_text(refusal), advice);
+}
+
+static uint8_t *mapped_store(const char *path)
+{
+    int file = open_store(path);
+    struct stat about;
+    void *store;
+
+    if (fstat(file, &about) != 0)
+        end_system("can't look at the store", path);
+    if (!S_ISREG(about.st_mode) || about.st_size != SIM_STORE_SIZE)
+        end_refused(path, BOARD_REFUSED_NOT_A_STORE);
+    store = mmap(NULL, SIM_STORE_SIZE, PROT_READ | PROT_WRITE, MAP_SHARED, file, 0);
+    if (store == MAP_FAILED)
+        end_system("can't map the store", path);
+    return store; /* the file stays open, and locked, until the program ends */
+}
+
+/* ---- the line */
+
+static void make_nonblocking(int file, const char *name)
+{
+    int flags = fcntl(file, F_GETFL);
+
+    if (flags < 0 || fcntl(file, F_SETFL, flags | O_NONBLOCK) < 0)
+        end_system("can't set up", name);
+}
+
+static void print_line(const char *text)
+{
+    if (puts(text) == EOF || fflush(stdout) != 0)
+        end_system("can't print", text);
+}
+
+/* Opens a pseudo-terminal that passes bytes on as they are. Our own hold on its other end keeps it alive between clients. */
+static int open_pty(void)
+{
+    int line = posix_openpt(O_RDWR | O_NOCTTY | O_CLOEXEC), other_end;
+    struct termios raw;
+    const char *name;
+
+    if (line < 0 || grantpt(line) != 0 || unlockpt(line) != 0)
+        end_system("can't open", "a pseudo-terminal");
+    name = ptsname(line);
+    if (name == NULL)
+        end_system("can't tell the name of", "the pseudo-terminal");
+    other_end = open(name, O_RDWR | O_NOCTTY | O_CLOEXEC);
+    if (other_end < 0 || tcgetattr(other_end, &raw) != 0)
+        end_system("can't open", name);
+    cfmakeraw(&raw);
+    if (tcsetattr(other_end, TCSANOW, &raw) != 0)
+        end_system("can't set up", name);
+    make_nonblocking(line, name);
+    print_line(name);
+    return line;
+}
+
+static void print_port(int listener)
+{
+    struct sockaddr_storage address;
+    socklen_t length = sizeof address;
+    char port[32];
+    int wrong;
+
+    if (getsockname(listener, (struct sockaddr *)&address, &length) != 0)
+        end_system("can't tell the number of", "the port");
+    wrong = getnameinfo((struct sockaddr *)&address, length, NULL, 0, port, sizeof port, NI_NUMERICSERV);
+    if (wrong != 0)
+        end_with(STATUS_SYSTEM, "can't tell the number of the port: %s", gai_strerror(wrong));
+    print_line(port);
+}
+
+static int open_listener(const char *address, const char *port)
+{
+    struct addrinfo wanted = {.ai_socktype = SOCK_STREAM, .ai_flags = AI_NUMERICSERV}, *found;
+    int wrong = getaddrinfo(address, port, &wanted, &found), listener, on = 1;
+
+    if (wrong != 0)
+        end_with(STATUS_SYSTEM, "can't listen on %s: %s", address, gai_strerror(wrong));
+    listener = socket(found->ai_family, SOCK_STREAM | SOCK_CLOEXEC, 0);
+    if (listener < 0 || setsockopt(listener, SOL_SOCKET, SO_REUSEADDR, &on, sizeof on) != 0)
+        end_system("can't make a socket for", address);
+    if (bind(listener, found->ai_addr, found->ai_addrlen) != 0 || listen(listener, 8) != 0)
+        end_with(STATUS_SYSTEM, "can't listen on %s port %s: %s", address, port, strerror(errno));
+    freeaddrinfo(found);
+    make_nonblocking(listener, "the listening socket");
+    print_port(listener);
+    return listener;
+}
+
+/* ---- ending on a signal */
+
+static int stop_pipe[2];
+
+static void stop(int signal)
+{
+    int before = errno;
+    ssize_t written = write(stop_pipe[1], "", 1);
+
+    (void)signal;
+    (void)written; /* where the pipe is full it is readable, and that is all that counts */
+    errno = before;
+}
+
+static void catch_signals(void)
+{
+    struct sigaction stops = {.sa_handler = stop}, ignored = {.sa_handler = SIG_IGN};
+
+    if (pipe2(stop_pipe, O_CLOEXEC | O_NONBLOCK) != 0)
+        end_system("can't make", "a pipe");
+    if (sigaction(SIGTERM, &stops, NULL) != 0 || sigaction(SIGINT, &stops, NULL) != 0 || sigaction(SIGPIPE, &ignored, NULL) != 0)
+        end_system("can't catch", "signals");
+}
+
+/* ---- the board on its line */
+
+enum { GAP_MS = 100 };
+
+struct simulator {
+    struct options options;
+    struct sim sim;
+    int listener;           /* -1 with a pseudo-terminal */
+    int line;               /* the pseudo-terminal or the client; -1 where there is no client */
+    bool ended;             /* the client sends no more; it stays for what it is owed */
+    bool holds;             /* the board holds the beginning of a packet */
+    bool erasing;           /* the board waits for erase steps */
+    int64_t last_byte;      /* when the line gave one, in nanoseconds */
+    int64_t last_step;      /* when an erase step ran or its erase began */
+    size_t in_at, in_end;   /* what was read and not yet given to the board */
+    size_t out_at, out_end; /* what is to be sent */
+    uint8_t in[512];
+    uint8_t out[BOARD_REPLY_ROOM];
+};
+
+static int64_t now(void)
+{
+    struct timespec time;
+
+    if (clock_gettime(CLOCK_MONOTONIC, &time) != 0)
+        end_system("can't read", "the clock");
+    return (int64_t)time.tv_sec * 1000000000 + time.tv_nsec;
+}
+
+static void say_reply(const uint8_t *bytes, size_t n)
+{
+    char hex[2 * BOARD_REPLY_ROOM + 1] = "";
+
+    for (size_t i = 0; i < n; i++)
+        snprintf(hex + 2 * i, 3, "%02X", bytes[i]);
+    fprintf(stderr, "reply %s\n", hex);
+}
+
+static void say(const struct sim *sim, uint8_t answer)
+{
+    static const char *const names[] = {[BOARD_SILENT] = "silent", [BOARD_BEGUN] = "begun", [BOARD_ENDED] = "ended"};
+
+    if (answer == BOARD_REPLY)
+        say_reply(sim->reply, sim->reply_len);
+    else if (answer == BOARD_REFUSED)
+        fprintf(stderr, "refused %d: %s\n", sim->refusal, sim_refusal_text(sim->refusal));
+    else if (answer != BOARD_WAITING && answer != BOARD_MORE)
+        fprintf(stderr, "%s\n", names[answer]);
+}
+
+/* What follows from an answer, whichever call gave it. */
+static void follow(struct simulator *s, uint8_t answer)
+{
+    if (s->options.verbose)
+        say(&s->sim, answer);
+    if (answer == BOARD_REFUSED && s->sim.refusal == BOARD_REFUSED_UNSOUND)
+        end_refused(s->options.store, s->sim.refusal); /* somebody else has changed it */
+    s->holds = answer == BOARD_WAITING;
+    s->erasing = sim_is_erasing(&s->sim);
+    s->last_step = answer == BOARD_BEGUN || answer == BOARD_MORE ? now() : s->last_step;
+    if (answer == BOARD_REPLY && s->line >= 0) {
+        memcpy(s->out, s->sim.reply, s->sim.reply_len);
+        s->out_at = 0;
+        s->out_end = s->sim.reply_len;
+    }
+}
+
+static bool is_sending(const struct simulator *s)
+{
+    return s->out_at < s->out_end;
+}
+
+/* Gives the board what was read, as far as its replies go out. */
+static void feed(struct simulator *s)
+{
+    while (s->in_at < s->in_end && !is_sending(s))
+        follow(s, sim_byte(&s->sim, s->in[s->in_at++]));
+}
+
+static void tell_gap(struct simulator *s)
+{
+    follow(s, sim_gap(&s->sim));
+    s->holds = false;
+}
+
+/* Ends a client's connection. The board gets what the client had sent, then a gap. */
+static void drop_client(struct simulator *s)
+{
+    if (close(s->line) != 0 && errno != ECONNRESET && errno != EINTR)
+        end_system("can't close", "a client's connection");
+    s->line = -1;
+    s->ended = false;
+    s->out_at = s->out_end = 0;
+    feed(s);
+    if (s->holds)
+        tell_gap(s);
+}
+
+/* Whether a read or write that failed is to be tried again; a client's failure ends the client. */
+static bool try_again(struct simulator *s, const char *doing)
+{
+    if (errno == EAGAIN || errno == EWOULDBLOCK || errno == EINTR)
+        return true;
+    if (s->listener < 0)
+        end_system(doing, "the pseudo-terminal");
+    return false;
+}
+
+static void read_line(struct simulator *s)
+{
+    ssize_t n = read(s->line, s->in, sizeof s->in);
+
+    if (n < 0 && try_again(s, "can't read from"))
+        return;
+    if (n < 0) {
+        drop_client(s);
+        return;
+    }
+    s->ended = n == 0;
+    s->in_at = 0;
+    s->in_end = (size_t)n;
+    s->last_byte = now();
+    feed(s);
+}
+
+static void write_line(struct simulator *s)
+{
+    ssize_t n = write(s->line, s->out + s->out_at, s->out_end - s->out_at);
+
+    if (n < 0 && !try_again(s, "can't write to"))
+        drop_client(s);
+    if (n > 0)
+        s->out_at += (size_t)n;
+    feed(s);
+}
+
+/* Takes a client; or turns it away while there is one. */
+static void take_client(struct simulator *s)
+{
+    int client = accept(s->listener, NULL, NULL);
+
+    if (client < 0) {
+        if (errno != EAGAIN && errno != EWOULDBLOCK && errno != EINTR && errno != ECONNABORTED)
+            end_system("can't take", "a client");
+        return;
+    }
+    if (s->line < 0) {
+        make_nonblocking(client, "a client's connection");
+        s->line = client;
+    } else if (close(client) != 0 && errno != ECONNRESET && errno != EINTR) {
+        end_system("can't turn away", "a client");
+    }
+}
+
+/* When the next gap or erase step is due, in nanoseconds; INT64_MAX for never. */
+static int64_t gap_due(const struct simulator *s)
+{
+    return s->holds && s->in_at == s->in_end ? s->last_byte + (int64_t)GAP_MS * 1000000 : INT64_MAX;
+}
+
+static int64_t step_due(const struct simulator *s)
+{
+    return s->erasing ? s->last_step + (int64_t)s->options.step_ms * 1000000 : INT64_MAX;
+}
+
+/* How long poll() may wait, in milliseconds, rounded up; -1 for ever. */
+static int patience(const struct simulator *s)
+{
+    int64_t gap = gap_due(s), step = step_due(s), first = gap < step ? gap : step, time = now();
+
+    if (first == INT64_MAX)
+        return -1;
+    return first <= time ? 0 : (int)((first - time + 999999) / 1000000);
+}
+
+/* Does what the line is ready for; or tells the board of the silence. */
+static void serve_line(struct simulator *s, short ready)
+{
+    if (ready != 0 && is_sending(s))
+        write_line(s);
+    else if (ready != 0)
+        read_line(s);
+    else if (gap_due(s) <= now())
+        tell_gap(s);
+}
+
+/* Waits for something and does what it asks for. The result says whether to go on. */
+static bool serve(struct simulator *s)
+{
+    bool sending = is_sending(s);
+    struct pollfd waits[] = {
+        {.fd = stop_pipe[0], .events = POLLIN},
+        {.fd = s->ended ? -1 : s->listener, .events = POLLIN},
+        {.fd = s->ended && !sending ? -1 : s->line, .events = sending ? POLLOUT : POLLIN | POLLRDHUP},
+    };
+    short line_ready;
+
+    if (poll(waits, 3, patience(s)) < 0) {
+        if (errno != EINTR)
+            end_system("can't wait for", "the line");
+        return true;
+    }
+    if (waits[0].revents != 0)
+        return false;
+    line_ready = waits[2].revents;
+    serve_line(s, line_ready);
+    if (waits[1].revents != 0 && (line_ready & (POLLRDHUP | POLLHUP)) == 0)
+        take_client(s); /* it waits while one is about to go, which poll() looks at later and so can't miss */
+    if (step_due(s) <= now())
+        follow(s, sim_step(&s->sim));
+    if (s->ended && !is_sending(s) && !s->erasing)
+        drop_client(s);
+    return true;
+}
+
+/* ---- the program */
+
+static void start(struct simulator *s, uint8_t *store)
+{
+    const struct options *o = &s->options;
+    uint8_t refusal = sim_start(&s->sim, store, o->id, (const uint8_t *)o->serial, strlen(o->serial), (const uint8_t *)o->model,
+                                strlen(o->model));
+
+    if (refusal != 0)
+        end_refused(o->store, refusal);
+    s->erasing = sim_is_erasing(&s->sim);
+    s->last_step = now();
+}
+
+int main(int argc, char **argv)
+{
+    static struct simulator s = {.listener = -1, .line = -1};
+    uint8_t *store;
+
+    s.options = options_in(argc, argv);
+    catch_signals();
+    store = mapped_store(s.options.store);
+    start(&s, store);
+    if (s.options.pty)
+        s.line = open_pty();
+    else
+        s.listener = open_listener(s.options.address != NULL ? s.options.address : "127.0.0.1", s.options.port);
+    while (serve(&s))
+        continue;
+    if (msync(store, SIM_STORE_SIZE, MS_SYNC) != 0)
+        end_system("can't write the store to", s.options.store);
+    return STATUS_DONE;
+}
