@@ -270,12 +270,6 @@ fn destination(random: &mut Random, own: u8) -> u8 {
     }
 }
 
-// A good packet to the board itself that begins no erase.
-pub fn plain_request(random: &mut Random, own: u8) -> Vec<u8> {
-    let (kind, text) = request(random, false);
-    packet(address(own), kind, text.as_bytes())
-}
-
 // A byte that packets have in some place, or any byte.
 fn odd_byte(random: &mut Random) -> u8 {
     if random.one_in(2) {

@@ -1,6 +1,5 @@
 // Compares the proved board, called over C, with the plain one of plain.rs, in lists of bytes, gaps, erase steps and power cuts:
-// every answer, number and length, the whole lent buffer and all stored bytes after each call. With --bench it measures both.
-mod bench;
+// every answer, number and length, the whole lent buffer and all stored bytes after each call.
 mod inputs;
 mod library;
 mod plain;
@@ -415,9 +414,6 @@ fn all_came_up(counts: &Counts) -> bool {
 }
 
 fn main() {
-    if std::env::args().nth(1).as_deref() == Some("--bench") {
-        return bench::measure();
-    }
     println!("seed {SEED:X}");
     let mut comparison = Comparison { random: Random(SEED), counts: Counts::default(), list: 0, notes: Vec::new() };
     comparison.other_state_sizes();
