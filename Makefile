@@ -24,7 +24,7 @@ BOARD = target/staticlib/libboard_c.a
 PARTS = bench command decode erase fields help inside line options patience port port_serial port_tcp reply request say show sim \
         store_file talk words
 BENCH_OBJECTS = $(PARTS:%=$(OUT)/%.o)
-BOARDSIM_OBJECTS = $(OUT)/boardsim.o $(OUT)/sim.o
+BOARDSIM_OBJECTS = $(OUT)/boardsim.o $(OUT)/sim.o $(OUT)/store_file.o
 CRATE_FILES := crates.txt $(shell find crates -name must-fail -prune -o -type f -print)
 
 .PHONY: all run test install clean

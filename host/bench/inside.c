@@ -15,8 +15,7 @@ static const char serial[] = "SIM-0001", model[] = "SIMULATED";
 struct inside {
     struct sim sim;
     uint8_t unused[SIM_STORE_SIZE];    /* the store, where there is no file */
-    uint8_t *store;                    /* the store */
-    int file;                          /* -1 where there is none */
+    struct store_file file;            /* closed where there is none */
     uint8_t out[2 * BOARD_REPLY_ROOM]; /* replies that were not taken yet, from out_at to out_end */
     size_t out_at, out_end;
 };
@@ -38,38 +37,37 @@ static void follow(struct inside *inside, uint8_t answer)
     }
 }
 
+static uint8_t *store_of(struct inside *inside)
+{
+    return inside->file.bytes != NULL ? inside->file.bytes : inside->unused;
+}
+
 /* Says why there is no board. */
 static struct inside *give_up(struct inside *inside, const char *store_file, const char *why)
 {
     say_error(STATUS_NO_REPLY, "everything; there is no simulated board",
               "name another file: where there is none, an unused store is made", "the store '%s' can't be used: %s",
               store_file != NULL ? store_file : "in memory", why);
-    if (inside->file >= 0)
-        store_file_close(inside->store, inside->file);
-    free(inside);
+    inside_close(inside);
     return NULL;
 }
 
 struct inside *inside_open(const char *store_file)
 {
     struct inside *inside = calloc(1, sizeof *inside);
-    const char *why = NULL;
+    enum store_file_status status = STORE_FILE_OPEN;
     uint8_t refusal;
 
     if (inside == NULL) {
         say_error(STATUS_NO_REPLY, "everything", "end other programs and try again", "there is no memory left");
         return NULL;
     }
-    inside->file = -1;
-    inside->store = inside->unused;
     board_unused(inside->unused, sizeof inside->unused);
     if (store_file != NULL)
-        inside->store = store_file_open(store_file, &inside->file, &why);
-    if (inside->store == NULL) {
-        inside->file = -1;
-        return give_up(inside, store_file, why);
-    }
-    refusal = sim_start(&inside->sim, inside->store, INSIDE_ID, (const uint8_t *)serial, strlen(serial), (const uint8_t *)model,
+        status = store_file_open(&inside->file, store_file);
+    if (status != STORE_FILE_OPEN)
+        return give_up(inside, store_file, store_file_text(status));
+    refusal = sim_start(&inside->sim, store_of(inside), INSIDE_ID, (const uint8_t *)serial, strlen(serial), (const uint8_t *)model,
                         strlen(model));
     if (refusal != 0)
         return give_up(inside, store_file, sim_refusal_text(refusal));
@@ -99,7 +97,7 @@ void inside_gap(struct inside *inside)
 
 void inside_close(struct inside *inside)
 {
-    if (inside->file >= 0)
-        store_file_close(inside->store, inside->file);
+    if (inside->file.bytes != NULL)
+        store_file_close(&inside->file);
     free(inside);
 }

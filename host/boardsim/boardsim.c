@@ -7,9 +7,10 @@
  *
  * While a reply can't go out because nobody takes it, the line is not read. So at most one reply waits, and none is lost.
  */
-#define _GNU_SOURCE /* posix_openpt, cfmakeraw, flock, POLLRDHUP */
+#define _GNU_SOURCE /* posix_openpt, cfmakeraw, pipe2, POLLRDHUP */
 
 #include "sim.h"
+#include "store_file.h"
 
 #include <errno.h>
 #include <fcntl.h>
@@ -21,10 +22,7 @@
 #include <stdio.h>
 #include <stdlib.h>
 #include <string.h>
-#include <sys/file.h>
-#include <sys/mman.h>
 #include <sys/socket.h>
-#include <sys/stat.h>
 #include <termios.h>
 #include <time.h>
 #include <unistd.h>
@@ -174,61 +172,6 @@ static struct options options_in(int argc, char **argv)
 
 /* ---- the store file */
 
-static bool write_whole(int file, const uint8_t *bytes, size_t n)
-{
-    while (n > 0) {
-        ssize_t written = write(file, bytes, n);
-
-        if (written < 0 && errno != EINTR)
-            return false;
-        if (written > 0) {
-            bytes += written;
-            n -= (size_t)written;
-        }
-    }
-    return true;
-}
-
-/* Makes an unused store. It gets its name when it is whole, so that a kill leaves no half of it under that name. */
-static void make_store(const char *path)
-{
-    uint8_t unused[SIM_STORE_SIZE];
-    char name[4096];
-    int length = snprintf(name, sizeof name, "%s.XXXXXX", path), file, wrong;
-
-    if (length < 0 || (size_t)length >= sizeof name)
-        end_with(STATUS_SYSTEM, "the store's name is too long");
-    board_unused(unused, sizeof unused);
-    file = mkstemp(name);
-    if (file < 0)
-        end_system("can't make a new store beside", path);
-    if (write_whole(file, unused, sizeof unused) && fchmod(file, 0644) == 0 && fsync(file) == 0 && close(file) == 0 &&
-        rename(name, path) == 0)
-        return;
-    wrong = errno;
-    unlink(name);
-    errno = wrong;
-    end_system("can't make the new store", path);
-}
-
-static int open_store(const char *path)
-{
-    int file = open(path, O_RDWR | O_CLOEXEC);
-
-    if (file < 0 && errno == ENOENT) {
-        make_store(path);
-        file = open(path, O_RDWR | O_CLOEXEC);
-    }
-    if (file < 0)
-        end_system("can't open the store", path);
-    if (flock(file, LOCK_EX | LOCK_NB) != 0) {
-        if (errno == EWOULDBLOCK)
-            end_with(STATUS_SYSTEM, "the store %s is in use by another boardsim: end that one, or name another file", path);
-        end_system("can't lock the store", path);
-    }
-    return file;
-}
-
 /* Ends the program where the board refuses its store. */
 __attribute__((noreturn)) static void end_refused(const char *path, uint8_t refusal)
 {
@@ -239,20 +182,19 @@ __attribute__((noreturn)) static void end_refused(const char *path, uint8_t refu
     end_with(STATUS_STORE_REFUSED, "%s: refused with %d: %s. %s", path, refusal, sim_refusal_text(refusal), advice);
 }
 
-static uint8_t *mapped_store(const char *path)
+/* Opens the store for the program's life. */
+static struct store_file open_store(const char *path)
 {
-    int file = open_store(path);
-    struct stat about;
-    void *store;
+    struct store_file file;
+    enum store_file_status status = store_file_open(&file, path);
 
-    if (fstat(file, &about) != 0)
-        end_system("can't look at the store", path);
-    if (!S_ISREG(about.st_mode) || about.st_size != SIM_STORE_SIZE)
+    if (status == STORE_FILE_NOT_A_STORE)
         end_refused(path, BOARD_REFUSED_NOT_A_STORE);
-    store = mmap(NULL, SIM_STORE_SIZE, PROT_READ | PROT_WRITE, MAP_SHARED, file, 0);
-    if (store == MAP_FAILED)
-        end_system("can't map the store", path);
-    return store; /* the file stays open, and locked, until the program ends */
+    if (status == STORE_FILE_IN_USE)
+        end_with(STATUS_SYSTEM, "the store %s is in use by another program: end that one, or name another file", path);
+    if (status != STORE_FILE_OPEN)
+        end_system("can't open the store", path);
+    return file;
 }
 
 /* ---- the line */
@@ -583,19 +525,19 @@ static void start(struct simulator *s, uint8_t *store)
 int main(int argc, char **argv)
 {
     static struct simulator s = {.listener = -1, .line = -1};
-    uint8_t *store;
+    struct store_file store;
 
     s.options = options_in(argc, argv);
     catch_signals();
-    store = mapped_store(s.options.store);
-    start(&s, store);
+    store = open_store(s.options.store);
+    start(&s, store.bytes);
     if (s.options.pty)
         s.line = open_pty();
     else
         s.listener = open_listener(s.options.address != NULL ? s.options.address : "127.0.0.1", s.options.port);
     while (serve(&s))
         continue;
-    if (msync(store, SIM_STORE_SIZE, MS_SYNC) != 0)
+    if (!store_file_close(&store))
         end_system("can't write the store to", s.options.store);
     return STATUS_DONE;
 }
