@@ -94,10 +94,10 @@ pub record Exports (e : Reads) (r : ℕ) (numbersBefore numbersAfter bytesBefore
 
 -- ---- what the code's values mean
 
--- a kind and its numbers, filled up with zeros, with no bytes beside them
-abbrev pub listing : ℕ → List ℕ → Listed
-listing kind numbers =
-    record { kind = kind; count = length numbers; numbers = numbers ++ replicate (9 - length numbers) 0; beside = 0 }
+-- a kind and its numbers, filled up with zeros, with so many bytes beside them
+abbrev pub listing : (kind : ℕ) (numbers : List ℕ) (beside : ℕ) → Listed
+listing kind numbers beside =
+    record { kind = kind; count = length numbers; numbers = numbers ++ replicate (9 - length numbers) 0; beside = beside }
 
 -- a reply from a sender, as kind and numbers; its bytes stand beside it, as many as it counts
 pub record Lists (l : Listed) (id : ℕ) (r : declared.Reply) (bytes : List ℕ) : Type 0 where

@@ -64,12 +64,7 @@ fn list_reply(sender: u8, reply: Reply) -> Listed
     let id = sender as u16;
     match reply {
         Reply::Null => {
-            return Listed {
-                kind: 101,
-                count: 1,
-                numbers: [id, 0, 0, 0, 0, 0, 0, 0, 0],
-                beside: 0,
-            };
+            return list_bytes(101, id, 0);
         }
         Reply::Got(outcome, p) => {
             return list_parameter(102, id, outcome, p);
@@ -87,29 +82,42 @@ fn list_reply(sender: u8, reply: Reply) -> Listed
             return list_date(id, answer);
         }
         Reply::Item(item, beside) => {
-            let kind = item_kind(item);
-            return Listed {
-                kind,
-                count: 1,
-                numbers: [id, 0, 0, 0, 0, 0, 0, 0, 0],
-                beside,
-            };
+            return list_bytes(item_kind(item), id, beside);
         }
         Reply::TagWritten(outcome, beside) => {
-            let status = outcome_number(outcome);
-            return Listed {
-                kind: 112,
-                count: 2,
-                numbers: [id, status, 0, 0, 0, 0, 0, 0, 0],
-                beside,
-            };
+            return list_tag(id, outcome, beside);
         }
+    }
+}
+
+// No numbers but the sender's ID, and so many bytes.
+fn list_bytes(kind: u8, id: u16, beside: u8) -> Listed
+    ensures { λ r. ⌜ r ≡ listing kind (id ∷ []) beside ⌝ }
+{
+    Listed {
+        kind,
+        count: 1,
+        numbers: [id, 0, 0, 0, 0, 0, 0, 0, 0],
+        beside,
+    }
+}
+
+// The status of a tag write, and so many bytes.
+fn list_tag(id: u16, outcome: Outcome, beside: u8) -> Listed
+    ensures { λ r. ⌜ r ≡ listing 112 (id ∷ outcomeNumber outcome ∷ []) beside ⌝ }
+{
+    let status = outcome_number(outcome);
+    Listed {
+        kind: 112,
+        count: 2,
+        numbers: [id, status, 0, 0, 0, 0, 0, 0, 0],
+        beside,
     }
 }
 
 // Result, page, code, operation type, max, value.
 fn list_parameter(kind: u8, id: u16, outcome: Outcome, p: Parameter) -> Listed
-    ensures { λ r. ⌜ r ≡ listing kind (id ∷ outcomeNumber outcome ∷ p .page ∷ p .code ∷ p .operation ∷ p .largest ∷ p .value ∷ []) ⌝ }
+    ensures { λ r. ⌜ r ≡ listing kind (id ∷ outcomeNumber outcome ∷ p .page ∷ p .code ∷ p .operation ∷ p .largest ∷ p .value ∷ []) 0 ⌝ }
 {
     let result = outcome_number(outcome);
     let page = p.page as u16;
@@ -125,7 +133,7 @@ fn list_parameter(kind: u8, id: u16, outcome: Outcome, p: Parameter) -> Listed
 
 // Status, mode.
 fn list_status(kind: u8, id: u16, outcome: Outcome, mode: u16) -> Listed
-    ensures { λ r. ⌜ r ≡ listing kind (id ∷ outcomeNumber outcome ∷ mode ∷ []) ⌝ }
+    ensures { λ r. ⌜ r ≡ listing kind (id ∷ outcomeNumber outcome ∷ mode ∷ []) 0 ⌝ }
 {
     let status = outcome_number(outcome);
     Listed {
@@ -138,7 +146,7 @@ fn list_status(kind: u8, id: u16, outcome: Outcome, mode: u16) -> Listed
 
 // The seven fields of a date, behind a status where it was written.
 fn list_date(id: u16, answer: DateAnswer) -> Listed
-    ensures { λ r. ⌜ r ≡ listing (kindOf (dateAnswerOf answer)) (id ∷ numbersOf (dateAnswerOf answer)) ⌝ }
+    ensures { λ r. ⌜ r ≡ listing (kindOf (dateAnswerOf answer)) (id ∷ numbersOf (dateAnswerOf answer)) 0 ⌝ }
 {
     match answer {
         DateAnswer::Read(date) => {

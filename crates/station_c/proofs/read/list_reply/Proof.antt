@@ -1,4 +1,4 @@
--- Each reply's kind and numbers are written at its case, and the rest are zeros.
+-- Each case lists the numbers of its reply in the order of the message.
 use borrow.Author.Needs.{needs}
 use mathlib.Core.List.{List, _∷_}
 use Prim.Native.Nat.{ℕ, _≤_}
@@ -9,7 +9,7 @@ use Rattle.station_c.specs.Read.{Lists, listing, kindOf, numbersOf}
 use Rattle.station_c.proofs.read.list_reply.Statement.{statement}
 use Rattle.station_c.proofs.read.list_reply.Tie as tie
 
-date-listed : (id : ℕ) (a : DateAnswer) → let l = listing (kindOf (dateAnswerOf a)) (id ∷ numbersOf (dateAnswerOf a)) in
+date-listed : (id : ℕ) (a : DateAnswer) → let l = listing (kindOf (dateAnswerOf a)) (id ∷ numbersOf (dateAnswerOf a)) 0 in
     ((bytes : List ℕ) → Lists l id (Reply.Date a) bytes) × (l .count ≤ 9)
 date-listed id (DateAnswer.Read d) = search needs
 date-listed id (DateAnswer.Written o d) = search needs
@@ -17,8 +17,11 @@ date-listed id (DateAnswer.Written o d) = search needs
 enum-told : tie.Need-enum-told
 enum-told c = search needs
 
+list-bytes-requires : tie.Need-list-bytes-requires
+list-bytes-requires c κs = search needs
+
 returns : tie.Need-returns
-returns c = rw (c .enum-told .given .1) (search needs)
+returns c = rw (c .list-bytes .ensures, c .before .enum-told .given .1) (search needs)
 
 enum-known-reply : tie.Need-enum-known-reply
 enum-known-reply c = search needs
@@ -75,23 +78,27 @@ enum-known-reply-6 c = search needs
 item-kind-requires : tie.Need-item-kind-requires
 item-kind-requires c κs = search needs
 
+list-bytes-requires-2 : tie.Need-list-bytes-requires-2
+list-bytes-requires-2 c κs = search needs
+
 returns-7 : tie.Need-returns-7
-returns-7 c = rw (c .item-kind .ensures, c .before .before .reply6 .given .1) (search needs)
+returns-7 c = rw (c .list-bytes2 .ensures, c .before .item-kind .ensures, c .before .before .before .reply6 .given .1) (search needs)
 
 enum-known-reply-7 : tie.Need-enum-known-reply-7
 enum-known-reply-7 c = search needs
 
-outcome-number-requires : tie.Need-outcome-number-requires
-outcome-number-requires c κs = search needs
+list-tag-requires : tie.Need-list-tag-requires
+list-tag-requires c κs = search needs
 
 returns-8 : tie.Need-returns-8
-returns-8 c = rw (c .outcome-number .ensures, c .before .before .reply7 .given .1) (search needs)
+returns-8 c = rw (c .list-tag .ensures, c .before .before .reply7 .given .1) (search needs)
 
 pub list-reply-spec : {M : Type 1} → statement M
 list-reply-spec =
     tie.close
     (tie.spec
     enum-told
+    list-bytes-requires
     returns
     enum-known-reply
     list-parameter-requires
@@ -111,7 +118,8 @@ list-reply-spec =
     returns-6
     enum-known-reply-6
     item-kind-requires
+    list-bytes-requires-2
     returns-7
     enum-known-reply-7
-    outcome-number-requires
+    list-tag-requires
     returns-8)
