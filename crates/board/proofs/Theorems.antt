@@ -1,5 +1,5 @@
 -- What holds of every call and step on this board, sound or not: soundness stays, a refusal stores and sends nothing, few bytes are stored,
--- a reply's length is its packet's, and an accepted Set moves its value.
+-- and a reply's length is its packet's.
 use mathlib.Core.Path.{_≡_, refl, subst}
 use mathlib.Core.Bool.{Bool, true, false}
 use mathlib.Core.List.{List, []}
@@ -7,22 +7,12 @@ use mathlib.Core.Logic.{_⊎_, ⊎-elim}
 use Prim.Native.Nat.{ℕ, _≤_}
 use native.Mathlib.Omega.{arith}
 use lib.ListN.{length}
-use Rattle.plan.specs.Stores.{Entry, applied}
-use Rattle.messages.specs.Message.Request.{getParameter, setParameter}
-use Rattle.messages.specs.Message.Reply.{getReply, setReply}
-use Rattle.store.specs.Layout.{fieldStores}
-use Rattle.store.specs.Settings.{rowOf, fieldOf, accepts, kept}
-use Rattle.store.specs.Contents.{isOn}
-use Rattle.store.specs.declared.settings.Setting.{Setting}
-use Rattle.store.proofs.StoreLaws.{field-applied}
-use Rattle.store.proofs.SettingLaws.{setting-field, setting-listed, settled, set-shows}
-use Rattle.erase.specs.Board.{Identity, Answer, refused, reply, pending}
+use Rattle.erase.specs.Board.{Answer, refused, reply, pending}
 use Rattle.erase.specs.Calls.{isSound, refuse, onCall, onStep}
 use Rattle.erase.proofs.Laws.{Kept}
 use Rattle.erase.proofs.Kept.{call-keeps, step-keeps}
 use Rattle.erase.proofs.Steps.{step-stores-one, pending-call-stores-none}
-use Rattle.actions.specs.Act.{replies, says, isErase, getEffect, setEffect, effectOf}
-use Rattle.packets.specs.Packets.{BoardState, BoardOutcome, answers}
+use Rattle.packets.specs.Packets.{BoardState, BoardOutcome}
 use Rattle.board.specs.Calls.{Call, thisBoard}
 use Rattle.board.proofs.BoardLaws.{board-laws}
 use Rattle.board.proofs.RefusalLaws.{Refused, unchanged, emptied, call-refused, step-refused}
@@ -85,33 +75,3 @@ call-reply c s m lent n e = subst (λ (a : Answer ℕ). Sends lent a (onCall thi
 
 pub step-reply : (s : BoardState) (m lent : List ℕ) (n : ℕ) → onStep thisBoard s m lent .answer ≡ reply n → Replied lent n (onStep thisBoard s m lent .buffer)
 step-reply s m lent n e = subst (λ (a : Answer ℕ). Sends lent a (onStep thisBoard s m lent .buffer)) e (step-bounded s m lent .sends)
-
--- ---- a Set moves its value
-
--- no setting is at F0/01
-setting-not-erase : (s : Setting) → isErase (rowOf s .page) (rowOf s .code) ≡ false
-setting-not-erase Setting.Backlight = refl
-setting-not-erase Setting.Input = refl
-setting-not-erase Setting.Balance = refl
-setting-not-erase Setting.PipH = refl
-setting-not-erase Setting.PipV = refl
-setting-not-erase Setting.AmbientLow = refl
-setting-not-erase Setting.AmbientHigh = refl
-setting-not-erase Setting.Tile = refl
-
--- what a Set of a setting replies and stores, and what a Get shows after it
-pub record Moves (i : Identity) (m : List ℕ) (s : Setting) (v : ℕ) : Type 0 where
-  pub stores : List Entry
-  pub answers : effectOf i m (setParameter (rowOf s .page) (rowOf s .code) v)
-      ≡ replies (setReply 0 (rowOf s .page) (rowOf s .code) 0 (rowOf s .largest) v) stores
-  pub shows : effectOf i (applied stores m) (getParameter (rowOf s .page) (rowOf s .code))
-      ≡ says (getReply 0 (rowOf s .page) (rowOf s .code) 0 (rowOf s .largest) (settled s v))
-
-pub set-moves-value : (i : Identity) (m : List ℕ) (s : Setting) (v : ℕ) → 12 ≤ length m → isOn m ≡ true → accepts s v ≡ true → Moves i m s v
-unfolding effectOf getEffect setEffect
-set-moves-value i m s v l on h =
-    record {
-      stores = fieldStores m (fieldOf s) (kept s v);
-      answers = rw (setting-not-erase s, setting-listed s, on, h);
-      shows = rw (setting-not-erase s, setting-listed s, field-applied m (fieldOf s) (kept s v) (setting-field s) l, set-shows m s v l h);
-    }

@@ -17,7 +17,7 @@ use Rattle.store.specs.Settings.{rowOf, fieldOf, settingAt, accepts, kept, curr
 use Rattle.store.specs.Contents.{isOn}
 use Rattle.store.specs.declared.settings.Setting.{Setting}
 use Rattle.store.proofs.StoreLaws.{both}
-use Rattle.store.proofs.SettingLaws.{setting-told, settled, set-applied, set-shows, set-others}
+use Rattle.store.proofs.SettingLaws.{setting-told, setting-listed, settled, set-applied, set-shows, set-others}
 use Rattle.erase.specs.Board.{Identity}
 use Rattle.actions.specs.Act.{Effect, replies, says, isErase, getListed, getEffect, setListed, setEffect, effectOf}
 use Rattle.exchange.specs.Demand2.{shows}
@@ -59,6 +59,23 @@ set-stored : {m : List ℕ} {page code v o l : ℕ} {es : List Entry} (a : Accep
     → applied es m ≡ write m (fieldOf (a .setting)) (kept (a .setting) v)
 set-stored {m} {page} {code} {v} a =
     ap (λ (es : List Entry). applied es m) (a .stored) ∙ set-applied m (a .setting) (kept (a .setting) v) (a .on)
+
+-- no setting is at F0/01
+setting-not-erase : (s : Setting) → isErase (rowOf s .page) (rowOf s .code) ≡ false
+setting-not-erase Setting.Backlight = refl
+setting-not-erase Setting.Input = refl
+setting-not-erase Setting.Balance = refl
+setting-not-erase Setting.PipH = refl
+setting-not-erase Setting.PipV = refl
+setting-not-erase Setting.AmbientLow = refl
+setting-not-erase Setting.AmbientHigh = refl
+setting-not-erase Setting.Tile = refl
+
+pub accepted : (i : Identity) (m : List ℕ) (s : Setting) (v : ℕ) → isOn m ≡ true → accepts s v ≡ true
+    → effectOf i m (setParameter (rowOf s .page) (rowOf s .code) v)
+    ≡ replies (setReply 0 (rowOf s .page) (rowOf s .code) 0 (rowOf s .largest) v) (fieldStores m (fieldOf s) (kept s v))
+unfolding effectOf setEffect
+accepted i m s v on h = rw (setting-not-erase s, setting-listed s, on, h)
 
 -- ---- what a Get shows
 

@@ -14,6 +14,10 @@ use Rattle.messages.specs.Message.Request.{getParameter, setParameter}
 use Rattle.messages.specs.Message.Reply.{getReply, setReply}
 use Rattle.messages.specs.Read.{requestIn}
 use Rattle.plan.specs.Stores.{Entry, applied}
+use Rattle.store.specs.Layout.{fieldStores}
+use Rattle.store.specs.Settings.{rowOf, fieldOf, accepts, kept}
+use Rattle.store.specs.Contents.{isOn}
+use Rattle.store.specs.declared.settings.Setting.{Setting}
 use Rattle.erase.specs.Board.{Identity, reply, idle}
 use Rattle.erase.specs.Calls.{isSound, onCall, onStep}
 use Rattle.erase.specs.Lists.{run}
@@ -86,6 +90,10 @@ pub record Demand2 : Type 0 where
   -- and on the last step of an erase
   pub erase-read : (s : BoardState) (m lent : List ℕ) (n : ℕ) → onStep thisBoard s m lent .answer ≡ reply n
       → IsRead (s .ident .id) n (setReply 0 0xF0 0x01 1 1 1) lent (onStep thisBoard s m lent .buffer)
+  -- a board that is on accepts a Set of every setting to every value of its row
+  pub accepted : (i : Identity) (m : List ℕ) (s : Setting) (v : ℕ) → isOn m ≡ true → accepts s v ≡ true
+      → effectOf i m (setParameter (rowOf s .page) (rowOf s .code) v)
+      ≡ replies (setReply 0 (rowOf s .page) (rowOf s .code) 0 (rowOf s .largest) v) (fieldStores m (fieldOf s) (kept s v))
   -- an accepted Set moves its value
   pub moves : (i : Identity) (m : List ℕ) (page code v o l : ℕ) (es : List Entry) → length m ≡ 128
       → effectOf i m (setParameter page code v) ≡ replies (setReply 0 page code o l v) es
