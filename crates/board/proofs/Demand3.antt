@@ -12,8 +12,8 @@ use Rattle.wire.proofs.DigitLaws.{cond-by}
 use Rattle.store.specs.Layout.{unusedStore}
 use Rattle.erase.specs.Board.{Identity, begun, ended, reply}
 use Rattle.erase.specs.Calls.{isShort, atRest, refuse, onCall}
-use Rattle.erase.specs.Lists as kinds
-use Rattle.erase.specs.Lists.{call, step, cut, run, Acceptance, traceAfter}
+use Rattle.erase.specs.Lists.{call, step, cut, from, run, Acceptance, identity, traceAfter}
+use Rattle.erase.proofs.Demand as kinds
 use Rattle.erase.proofs.Steps.{Called, refuses, does, called}
 use Rattle.erase.proofs.Kept.{unused-startable, rest-start}
 use Rattle.erase.proofs.Theorem.{erases}
@@ -27,7 +27,7 @@ use Rattle.board.proofs.EraseRequest.{acceptable}
 -- ---- what is expected
 
 unused-trace : (i : Identity) (es : Events) → isIdentity i ≡ true → kinds.runUnused thisBoard i es ≡ unusedTrace i es
-unfolding kinds.runUnused kinds.from unusedTrace
+unfolding kinds.runUnused from unusedTrace
 unused-trace i es named = rw (← unused-bytes, rest-start board-laws (unused-startable board-laws named))
     (ap (λ (m : List ℕ). run thisBoard i (atRest thisBoard i) m es) unused-bytes)
 
@@ -73,8 +73,8 @@ unfolding owes owed
 owed-as (byte b) s m lent e = refl
 owed-as gap s m lent e = sym (ne-eqb 0 (0x40 + s .ident .id) (λ z. omega arith))
 
-trace-is : (a : Acceptance thisBoard) (es : Events) → traceAfter thisBoard a es ≡ expected (kinds.identity thisBoard a) (owed a) 0 (set (a .store) 0 0xE7) es
-unfolding kinds.identity
+trace-is : (a : Acceptance thisBoard) (es : Events) → traceAfter thisBoard a es ≡ expected (identity thisBoard a) (owed a) 0 (set (a .store) 0 0xE7) es
+unfolding identity
 trace-is a es =
     let E = erases thisBoard board-laws in
     E .traced a es
