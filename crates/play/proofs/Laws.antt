@@ -1,7 +1,7 @@
 -- Laws of a run's parts: what a call, a gap and a start show, what is written at the start of a list, and a trace with one more event.
 use types.Run.{OneOf, miss}
 use denote.Enum.Declared.{tagOf}
-use mathlib.Core.Bool.{Bool, true, false, cond}
+use mathlib.Core.Bool.{Bool, true, false, cond, true≢false}
 use mathlib.Core.List.{List, [], _∷_, _++_, append-assoc}
 use mathlib.Core.Path.{_≡_, refl, ap, _∙_}
 use Prim.Native.Nat.{ℕ, _≤_, _<_}
@@ -26,7 +26,9 @@ use Rattle.board.specs.declared.board.Started.{Started}
 use Rattle.board.specs.declared.board.Verdict.{Verdict}
 use Rattle.board.proofs.board.Answer.{the-type}
 use Rattle.wire.specs.declared.refusal.Refusal.{Refusal}
-use Rattle.play.specs.Play.{eventOf, numberIn}
+use Rattle.play.specs.Play.{eventOf, numberIn, goesOn, traceOf}
+use Rattle.play.specs.declared.Seen.{Seen}
+use Rattle.play.specs.declared.Turn.{Turn}
 
 -- ---- the number in an answer
 
@@ -73,12 +75,13 @@ over-drop p o k h = drop-at p (drop (length p) o) k h ∙ rw h
 
 -- ---- what a call shows
 
-module _ (i : Identity) (es : Events) where
-  pub shown : (d : Done) (m m′ lent : List ℕ) (o : BoardOutcome) → gave d m′ lent ≡ result o m
-      → answered (answerOf (d .answer)) lent m′ ∷ run thisBoard i (stateOf (d .board)) m′ es
-      ≡ seen thisBoard o m ∷ run thisBoard i (o .state) (after o m) es
-  unfolding seen
-  shown d m m′ lent o e = ap (λ (r : Result). answered (r .answer) (r .buffer) (r .store) ∷ run thisBoard i (r .state) (r .store) es) e
+pub shown : (i : Identity) (t : Turn) (d : Done) (m m′ lent : List ℕ) (o : BoardOutcome)
+    → t ≡ record { board = d .board; seen = Seen.Answered (d .answer) } → gave d m′ lent ≡ result o m
+    → ((es : Events) → traceOf t i m′ lent es ≡ seen thisBoard o m ∷ run thisBoard i (o .state) (after o m) es) × (goesOn (t .seen) ≡ false → m′ ≡ m)
+unfolding seen
+shown i t d m m′ lent o a e =
+    rw a
+    (λ es. ap (λ (r : Result). answered (r .answer) (r .buffer) (r .store) ∷ run thisBoard i (r .state) (r .store) es) e, λ f. absurd (true≢false f))
 
 abbrev lentAs : List ℕ → Result → Result
 lentAs lent r = record { answer = r .answer; state = r .state; store = r .store; buffer = lent }

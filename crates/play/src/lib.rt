@@ -3,6 +3,7 @@ ghost use mathlib.Core.Bool.{false};
 ghost use mathlib.Core.List.{List, _∷_};
 ghost use mathlib.Core.Path.{_≡_};
 ghost use Prim.Native.Nat.{ℕ, _+_, _≤_};
+ghost use lib.Dec.{ltb};
 ghost use lib.ListN.{length};
 ghost use Rattle.wire.specs.Packet.{over};
 ghost use Rattle.board.specs.View.{stateOf, answerOf, givenIdentity};
@@ -14,6 +15,7 @@ ghost use Rattle.play.specs.Play.{eventOf, eventsIn, partOf, numberIn, e
 use board::board as calls;
 use board::board::Answer;
 use board::board::Board;
+use board::board::Done;
 use board::board::Verdict;
 use wire::refusal::Refusal;
 
@@ -48,10 +50,7 @@ pub fn play(
     if events.len() < 2 {
         return;
     }
-    if log.len() < 2 {
-        return;
-    }
-    if log.len() - 2 < store.len() {
+    if is_full(log.len(), store.len()) {
         return;
     }
     let event = events[0];
@@ -73,6 +72,16 @@ pub fn play(
         &mut lent[n..],
         &mut log[used..],
     )
+}
+
+// Whether a log has no room for an event: two numbers and the store.
+fn is_full(log: usize, store: usize) -> bool
+    ensures { λ r. ⌜ r ≡ ltb log (store + 2) ⌝ }
+{
+    if log < 2 {
+        return true;
+    }
+    log - 2 < store
 }
 
 // How long an event's part of what is lent is: a cut has none, and none is longer than what is left.
@@ -102,32 +111,29 @@ fn turn_of(
 {
     if event < 256 {
         let done = board.byte(store, event as u8, lent);
-        let answer = done.answer;
-        let next = done.board;
-        return Turn {
-            board: next,
-            seen: Seen::Answered(answer),
-        };
+        return answered(done);
     }
     if event == 256 {
         let done = board.gap(store);
-        let answer = done.answer;
-        let next = done.board;
-        return Turn {
-            board: next,
-            seen: Seen::Answered(answer),
-        };
+        return answered(done);
     }
     if event == 257 {
         let done = board.step(store, lent);
-        let answer = done.answer;
-        let next = done.board;
-        return Turn {
-            board: next,
-            seen: Seen::Answered(answer),
-        };
+        return answered(done);
     }
     start_again(store, id, serial, model)
+}
+
+// The turn of a call: the board after it, and its answer is what is seen.
+fn answered(done: Done) -> Turn
+    ensures { λ r. ⌜ r ≡ record { board = done .board; seen = Seen.Answered (done .answer) } ⌝ }
+{
+    let answer = done.answer;
+    let next = done.board;
+    Turn {
+        board: next,
+        seen: Seen::Answered(answer),
+    }
 }
 
 // A power cut's start, on the store as it is, and is left.

@@ -4,7 +4,7 @@ use mathlib.Core.Path.{_≡_, sym, _∙_}
 use Prim.Native.Nat.{ℕ, _+_, _-_, _<_}
 use native.Mathlib.Nat.{le-refl}
 use native.Mathlib.Omega.{arith}
-use borrow.Author.Tests.{not-true, not-false}
+use borrow.Author.Tests.{ltb-true, ltb-false, not-true, not-false}
 use borrow.Rule.Slice.PartAt.{part-to-end}
 use borrow.Rule.Slice.PartMut.{same-len-mid}
 use lib.ListN.{length, getD, drop, length-drop}
@@ -17,6 +17,7 @@ use Rattle.play.proofs.play.Reads as play
 use Rattle.play.proofs.play.Kinds as play-kinds
 use Rattle.play.proofs.+play.Lts-play as play-lts
 use Rattle.play.proofs.enter.Reads as enter-reads
+use Rattle.play.proofs.is_full.Reads as is-full-reads
 use Rattle.play.proofs.part.Reads as part-reads
 use Rattle.play.proofs.turn_of.Reads as turn-of-reads
 use Rattle.play.proofs.+play.{statement}
@@ -33,6 +34,8 @@ play-below t = and 6 play-kinds.ps (falls 6 play-kinds.ps _<_ μ-play t) play.Pr
 
 abbrev claims : ℕ → play-lts.Claims
 claims t = (
+  is-full-reads.Asked,
+  is-full-reads.Learnt,
   part-reads.Asked,
   part-reads.Learnt,
   turn-of-reads.Asked,
@@ -64,7 +67,7 @@ turned t c =
       part-is = n .ensures .0;
       part-size = turn .kept .1 .1 .1 .1 .1 .1 .0 ∙ length-take-le (n .result) (a .lent .now) (n .ensures .1);
       store-size = turn .kept .1 .1 .1 .1 .0;
-      room = omega (arith, c .before .before .before .before .before .before .before .before .before .before .before .before .before .before .before .if3 .left, c .before .before .before .before .before .before .before .before .before .before .before .before .before .before .before .before .if2 .left);
+      room = ltb-false _ _ (sym (c .before .before .before .before .before .before .before .before .before .before .before .before .before .before .before .before .is-full .ensures) ∙ c .before .before .before .before .before .before .before .before .before .before .before .before .before .before .before .if2 .left);
     }
 
 -- what is lent has as many bytes as it had
@@ -78,14 +81,11 @@ lent-kept t c =
 play-returns : (t : ℕ) → play-lts.Need-returns (claims t) (play-at t) play.Post
 play-returns t c = plays-none _ _ _ _ _ _ (none-few _ _ _ (c .before .before .before .before .before .before .before .args .events .now) (c .if1 .taken))
 
+play-is-full-requires : (t : ℕ) → play-lts.Need-is-full-requires (claims t) (play-at t) play.Post
+play-is-full-requires t c κs = tt
+
 play-returns-2 : (t : ℕ) → play-lts.Need-returns-2 (claims t) (play-at t) play.Post
-play-returns-2 t c = plays-none _ _ _ _ _ _ (none-room _ _ _ (c .before .before .before .before .before .before .before .before .args .events .now) (omega (arith, c .if2 .taken)))
-
-play-sub-if3 : (t : ℕ) → play-lts.Need-sub-if3 (claims t) (play-at t) play.Post
-play-sub-if3 t c = omega (arith, c .if2 .left)
-
-play-returns-3 : (t : ℕ) → play-lts.Need-returns-3 (claims t) (play-at t) play.Post
-play-returns-3 t c = plays-none _ _ _ _ _ _ (none-room _ _ _ (c .before .before .before .before .before .before .before .before .before .args .events .now) (omega (arith, c .if3 .taken, c .before .if2 .left)))
+play-returns-2 t c = plays-none _ _ _ _ _ _ (none-room _ _ _ (c .before .before .before .before .before .before .before .before .before .args .events .now) (ltb-true _ _ (sym (c .before .is-full .ensures) ∙ c .if2 .taken)))
 
 play-shared-slice-read-event : (t : ℕ) → play-lts.Need-shared-slice-read-event (claims t) (play-at t) play.Post
 play-shared-slice-read-event t c = omega (arith, c .before .before .before .if1 .left)
@@ -106,7 +106,7 @@ play-turn-of-requires : (t : ℕ) → play-lts.Need-turn-of-requires (claims t) 
 play-turn-of-requires t c κs = tt
 
 play-enter-requires : (t : ℕ) → play-lts.Need-enter-requires (claims t) (play-at t) play.Post
-play-enter-requires t c κs = omega (arith, c .before .before .before .before .before .before .turn-of .kept .1 .1 .1 .1 .0, c .before .before .before .before .before .before .before .before .before .before .before .before .if3 .left, c .before .before .before .before .before .before .before .before .before .before .before .before .before .if2 .left)
+play-enter-requires t c κs = rw (c .before .before .before .before .before .before .turn-of .kept .1 .1 .1 .1 .0) (ltb-false _ _ (sym (c .before .before .before .before .before .before .before .before .before .before .before .before .before .is-full .ensures) ∙ c .before .before .before .before .before .before .before .before .before .before .before .before .if2 .left))
 
 play-same-length : (t : ℕ) → play-lts.Need-same-length (claims t) (play-at t) play.Post
 play-same-length t c = turned t (c .before) .store-size
@@ -117,10 +117,10 @@ play-same-length-2 t c = lent-kept t (c .before)
 play-same-length-3 : (t : ℕ) → play-lts.Need-same-length-3 (claims t) (play-at t) play.Post
 play-same-length-3 t c = c .before .before .before .enter .kept .1 .1 .0
 
-play-returns-4 : (t : ℕ) → play-lts.Need-returns-4 (claims t) (play-at t) play.Post
-play-returns-4 t c =
+play-returns-3 : (t : ℕ) → play-lts.Need-returns-3 (claims t) (play-at t) play.Post
+play-returns-3 t c =
     let entered = c .before .before .before .enter in
-    played-last (c .before .before .before .before .before .before .before .before .before .before .before .before .before .before .before .before .before .before .before .before .before .before .before .before .before .args .events .now) (c .before .before .before .before .before .before .before .before .before .before .before .before .before .before .before .before .before .before .if1 .left) _ (turned t (c .before)) (sym (entered .ensures .0) ∙ not-true (entered .result) (c .if4 .taken))
+    played-last (c .before .before .before .before .before .before .before .before .before .before .before .before .before .before .before .before .before .before .before .before .before .before .before .before .before .args .events .now) (c .before .before .before .before .before .before .before .before .before .before .before .before .before .before .before .before .before .before .if1 .left) _ (turned t (c .before)) (sym (entered .ensures .0) ∙ not-true (entered .result) (c .if3 .taken))
 
 play-add-used : (t : ℕ) → play-lts.Need-add-used (claims t) (play-at t) play.Post
 play-add-used t c = let u = turned t (c .before) in record { fits = omega (arith, c .before .before .before .before .before .before .before .before .before .before .before .before .before .before .before .before .before .before .before .before .before .before .before .before .before .good .1 .1 .1 .1 .1 .1 .1 .0 .0) }
@@ -177,19 +177,18 @@ play-same-length-6 t c =
     let log = d .before .before .enter .last .1 .1 .0 in
     same-len-mid used (length log - used) log (c .before .before .before .before .before .before .play .last .1 .1 .1 .1 .1 .1 .1 .0) (c .before .before .before .before .before .before .play .kept .1 .1 .1 .1 .1 .1 .1 .0) ∙ d .before .before .enter .kept .1 .1 .0
 
-play-returns-5 : (t : ℕ) → play-lts.Need-returns-5 (claims t) (play-at t) play.Post
-play-returns-5 t c =
+play-returns-4 : (t : ℕ) → play-lts.Need-returns-4 (claims t) (play-at t) play.Post
+play-returns-4 t c =
     let d = c .before .before .before .before .before .before .before .before .before .before .before .before .before in
-    let goes = sym (d .before .before .enter .ensures .0) ∙ not-false (d .before .before .enter .result) (c .before .before .before .before .before .before .before .before .before .before .before .before .if4 .left) in
+    let goes = sym (d .before .before .enter .ensures .0) ∙ not-false (d .before .before .enter .result) (c .before .before .before .before .before .before .before .before .before .before .before .before .if3 .left) in
     played-on (d .before .before .before .before .before .before .before .before .before .before .before .before .before .before .before .before .before .before .before .before .before .before .before .before .args .events .now) (d .before .before .before .before .before .before .before .before .before .before .before .before .before .before .before .before .before .if1 .left) _ (turned t d) goes _ _ _ (c .before .before .before .before .before .before .play .ensures)
 
 pub +play-spec : {M : Type 1} → statement M
 +play-spec = close μ-play λ t.
     play-lts.spec (claims t) (play-at t) play.Post
     (play-returns t)
+    (play-is-full-requires t)
     (play-returns-2 t)
-    (play-sub-if3 t)
-    (play-returns-3 t)
     (play-shared-slice-read-event t)
     (play-shared-slice-read-part t)
     (play-part-requires t)
@@ -200,7 +199,7 @@ pub +play-spec : {M : Type 1} → statement M
     (play-same-length t)
     (play-same-length-2 t)
     (play-same-length-3 t)
-    (play-returns-4 t)
+    (play-returns-3 t)
     (play-add-used t)
     (play-sub-play t)
     (play-part-play-start t)
@@ -216,4 +215,4 @@ pub +play-spec : {M : Type 1} → statement M
     (play-same-length-4 t)
     (play-same-length-5 t)
     (play-same-length-6 t)
-    (play-returns-5 t)
+    (play-returns-4 t)

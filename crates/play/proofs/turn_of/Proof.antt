@@ -1,7 +1,8 @@
 -- The tests tell which event a number is, and the call of each shows what its contract says.
 use borrow.Author.Needs.{needs}
-use mathlib.Core.Bool.{true≢false}
+use Rattle.erase.specs.Calls.{onCall}
 use Rattle.erase.specs.Lists.{run}
+use Rattle.board.specs.Calls.{byte, thisBoard}
 use Rattle.board.specs.View.{stateOf}
 use Rattle.play.proofs.Laws.{shown, gap-lent, byte-event, gap-event, step-event, cut-event}
 use Rattle.play.proofs.turn_of.Statement.{statement}
@@ -12,6 +13,9 @@ cast-byte c = search needs
 
 byte-requires : tie.Need-byte-requires
 byte-requires c κs = search needs
+
+answered-requires : tie.Need-answered-requires
+answered-requires c κs = search needs
 
 same-length : tie.Need-same-length
 same-length c = search needs
@@ -24,10 +28,14 @@ unfolding run
 returns c =
     let a = c .before .before .before .before .before .before .before .before .before .before .before .before .before .args in
     let r = c .before .before .before .before .before .byte in
-    (λ es. rw (byte-event (a .event) (a .lent .now) (c .before .before .before .before .before .before .before .before .if1 .taken)) (shown _ es (r .result) _ _ _ _ (r .ensures)), λ e. absurd (true≢false e))
+    let o = onCall thisBoard (byte (a .event)) (stateOf (a .board)) (a .store .now) (a .lent .now) in
+    rw (byte-event (a .event) (a .lent .now) (c .before .before .before .before .before .before .before .before .if1 .taken)) (shown _ _ (r .result) _ _ _ o (c .answered .ensures) (r .ensures))
 
 gap-requires : tie.Need-gap-requires
 gap-requires c κs = search needs
+
+answered-requires-2 : tie.Need-answered-requires-2
+answered-requires-2 c κs = search needs
 
 same-length-3 : tie.Need-same-length-3
 same-length-3 c = search needs
@@ -37,10 +45,13 @@ unfolding run
 returns-2 c =
     let a = c .before .before .before .before .before .before .before .before .before .args in
     let r = c .before .gap in
-    (λ es. rw (gap-event (a .event) (a .lent .now) (c .before .before .before .if2 .taken)) (shown _ es (r .result) _ _ _ _ (gap-lent _ _ (a .lent .now) (r .result) _ (r .ensures))), λ e. absurd (true≢false e))
+    rw (gap-event (a .event) (a .lent .now) (c .before .before .before .if2 .taken)) (shown _ _ (r .result) _ _ _ _ (c .answered2 .ensures) (gap-lent _ _ (a .lent .now) (r .result) _ (r .ensures)))
 
 step-requires : tie.Need-step-requires
 step-requires c κs = search needs
+
+answered-requires-3 : tie.Need-answered-requires-3
+answered-requires-3 c κs = search needs
 
 same-length-4 : tie.Need-same-length-4
 same-length-4 c = search needs
@@ -53,7 +64,7 @@ unfolding run
 returns-3 c =
     let a = c .before .before .before .before .before .before .before .before .before .before .before .before .before .before .before .args in
     let r = c .before .before .before .before .before .step in
-    (λ es. rw (step-event (a .event) (a .lent .now) (c .before .before .before .before .before .before .before .before .if3 .taken)) (shown _ es (r .result) _ _ _ _ (r .ensures)), λ e. absurd (true≢false e))
+    rw (step-event (a .event) (a .lent .now) (c .before .before .before .before .before .before .before .before .if3 .taken)) (shown _ _ (r .result) _ _ _ _ (c .answered3 .ensures) (r .ensures))
 
 start-again-requires : tie.Need-start-again-requires
 start-again-requires c κs = search needs
@@ -74,13 +85,16 @@ turn-of-spec =
     (tie.spec
     cast-byte
     byte-requires
+    answered-requires
     same-length
     same-length-2
     returns
     gap-requires
+    answered-requires-2
     same-length-3
     returns-2
     step-requires
+    answered-requires-3
     same-length-4
     same-length-5
     returns-3
