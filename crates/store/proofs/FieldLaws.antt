@@ -1,4 +1,4 @@
--- What the code does to the first bytes of the store it does to the store: a field of them, a copy of them, a range of them; and what a setting or a date may hold fits its field.
+-- What the code does to the first bytes of the store it does to the store: a field of them, the date, a copy of them, a range of them; and what a setting may hold fits its field.
 use borrow.Author.Needs.{needs}
 use borrow.Author.Tests.{leb-true}
 use types.Run.{OneOf, miss}
@@ -21,11 +21,10 @@ use Rattle.store.specs.declared.settings.Setting.{Setting}
 use Rattle.store.specs.declared.settings.Row.{Row}
 use Rattle.store.specs.Layout.{Field, InHead, fitsIn, fits, read, allFit}
 use Rattle.store.specs.Settings.{rowOf, fieldOf, accepts, kept, shown}
-use Rattle.store.specs.Contents.{isStorable}
+use Rattle.store.specs.Contents.{withDate, dateStores}
 use Rattle.store.proofs.settings.Setting.{the-type}
 use Rattle.store.proofs.StoreLaws.{both}
 use Rattle.store.proofs.SettingLaws.{kept-below}
-use Rattle.store.proofs.DateLaws.{storable}
 
 -- ---- a field of the first bytes
 
@@ -69,6 +68,11 @@ part-of-first a e n l h k =
 pub copied-of-first : (a e n : ℕ) (s : List ℕ) {h : List ℕ} → a ≤ e → e ≤ n → h ≡ take n s → copied a e h ≡ copied a e s
 copied-of-first a e n s l m p = rw p (ap (rangeOf a) (part-of-first a e n s l m))
 
+-- the date stored in the first 12 bytes is stored as that of the whole
+pub date-of-first : (m : List ℕ) (d : Date) → copied 6 11 (withDate (take 12 m) d) ≡ dateStores m d
+unfolding dateStores withDate
+date-of-first m d = copied-of-first 6 11 12 (withDate m d) {h = withDate (take 12 m) d} (omega arith) (omega arith) (search (take-put, needs))
+
 -- a plan of nothing but what is added to it
 pub only : {es fs r : List Entry} → es ≡ [] → r ≡ es ++ fs → r ≡ fs
 only p q = q ∙ rw p
@@ -105,29 +109,9 @@ fit-append m (f ∷ fs) gs =
 
 -- ---- what fits a field
 
-at-most : (least most v : ℕ) → fitsIn least most v ≡ true → v ≤ most
+-- a value in a range is at most the range's end
+pub at-most : (least most v : ℕ) → fitsIn least most v ≡ true → v ≤ most
 at-most least most v e = leb-true v most (both (leb least v) (leb v most) e .1)
-
--- each part of a date that may be stored
-pub record DateFits (d : Date) : Type 0 where
-  pub year : d .year ≤ 99
-  pub month : d .month ≤ 12
-  pub day : d .day ≤ 31
-  pub weekday : d .weekday ≤ 6
-  pub hour : d .hour ≤ 23
-  pub minute : d .minute ≤ 59
-
-pub date-fits : (d : Date) → isStorable d ≡ true → DateFits d
-date-fits d e =
-    let s = storable d e in
-    record {
-      year = at-most 0 99 (d .year) (s .year);
-      month = at-most 1 12 (d .month) (s .month);
-      day = at-most 1 31 (d .day) (s .day);
-      weekday = at-most 0 6 (d .weekday) (s .weekday);
-      hour = at-most 0 23 (d .hour) (s .hour);
-      minute = at-most 0 59 (d .minute) (s .minute);
-    }
 
 -- ---- settings
 

@@ -1,9 +1,9 @@
 // Power, date and tags in the store.
 ghost use mathlib.Core.Bool.{true};
 ghost use mathlib.Core.Path.{_≡_};
-ghost use Prim.Native.Nat.{_+_, _≤_};
+ghost use Prim.Native.Nat.{_+_, _^_, _≤_, _<_};
 ghost use lib.ListN.{length, take, drop};
-ghost use Rattle.bitfield.specs.Field.{getField};
+ghost use Rattle.bitfield.specs.Field.{getField, putField};
 ghost use Rattle.plan.specs.Plans.{storesOf};
 ghost use Rattle.store.specs.Layout.{fieldStores, power, tagLength, formerLength, read, fitsIn, InHead};
 ghost use Rattle.store.specs.Contents.{isOn, dateOf, isStorable, isAccepted, dateStores, tagOf, formerTagOf, padded, tagStores, textOf};
@@ -87,44 +87,24 @@ pub fn date_stores(store: &[u8], date: Date) -> Plan
     requires { ⌜ isStorable date ≡ true ⌝ }
     ensures { λ r. ⌜ storesOf r ≡ dateStores (now (store .entry)) date ⌝ }
 {
-    let mut head = fields::head_of(store);
-    bitfield::put(
-        &mut head,
-        fields::YEAR_AT,
-        fields::YEAR_WIDTH,
-        date.year as u16,
-    );
-    bitfield::put(
-        &mut head,
-        fields::MONTH_AT,
-        fields::MONTH_WIDTH,
-        date.month as u16,
-    );
-    bitfield::put(
-        &mut head,
-        fields::DAY_AT,
-        fields::DAY_WIDTH,
-        date.day as u16,
-    );
-    bitfield::put(
-        &mut head,
-        fields::WEEKDAY_AT,
-        fields::WEEKDAY_WIDTH,
-        date.weekday as u16,
-    );
-    bitfield::put(
-        &mut head,
-        fields::HOUR_AT,
-        fields::HOUR_WIDTH,
-        date.hour as u16,
-    );
-    bitfield::put(
-        &mut head,
-        fields::MINUTE_AT,
-        fields::MINUTE_WIDTH,
-        date.minute as u16,
-    );
-    Plan::empty().with_range(6, &head[6..11])
+    let h = fields::head_of(store);
+    let h = with_field(h, fields::YEAR_AT, fields::YEAR_WIDTH, date.year);
+    let h = with_field(h, fields::MONTH_AT, fields::MONTH_WIDTH, date.month);
+    let h = with_field(h, fields::DAY_AT, fields::DAY_WIDTH, date.day);
+    let h = with_field(h, fields::WEEKDAY_AT, fields::WEEKDAY_WIDTH, date.weekday);
+    let h = with_field(h, fields::HOUR_AT, fields::HOUR_WIDTH, date.hour);
+    let h = with_field(h, fields::MINUTE_AT, fields::MINUTE_WIDTH, date.minute);
+    Plan::empty().with_range(6, &h[6..11])
+}
+
+// The head with a value in one of its fields.
+fn with_field(head: [u8; 12], at: usize, width: usize, value: u8) -> [u8; 12]
+    requires { ⌜ InHead at width × (value < 2 ^ width) ⌝ }
+    ensures { λ r. ⌜ r ≡ putField head at width value ⌝ }
+{
+    let mut next = head;
+    bitfield::put(&mut next, at, width, value as u16);
+    next
 }
 
 // The tag.
