@@ -21,10 +21,11 @@ OUT = target/host
 STATION = target/staticlib/libstation_c.a
 BOARD = target/staticlib/libboard_c.a
 
-PARTS = bench command decode erase fields help inside line options patience port port_serial port_tcp reply request say show sim \
+BENCH_PARTS = bench command deadline decode erase fields help inside line options port port_serial port_tcp reply request say show sim \
         store_file talk words
-BENCH_OBJECTS = $(PARTS:%=$(OUT)/%.o)
-BOARDSIM_OBJECTS = $(OUT)/boardsim.o $(OUT)/sim.o $(OUT)/store_file.o
+BENCH_OBJECTS = $(BENCH_PARTS:%=$(OUT)/%.o)
+BOARDSIM_PARTS = boardsim end sim sim_line sim_options store_file
+BOARDSIM_OBJECTS = $(BOARDSIM_PARTS:%=$(OUT)/%.o)
 CRATE_FILES := crates.txt $(shell find crates -name must-fail -prune -o -type f -print)
 
 .PHONY: all run test install clean

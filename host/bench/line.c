@@ -5,7 +5,7 @@
  */
 #include "line.h"
 
-#include "patience.h"
+#include "deadline.h"
 #include "say.h"
 
 #include <string.h>

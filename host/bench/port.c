@@ -3,8 +3,8 @@
 
 #include "port.h"
 
+#include "deadline.h"
 #include "inside.h"
-#include "patience.h"
 
 #include <errno.h>
 #include <poll.h>

@@ -1,7 +1,7 @@
 /* A TCP connection to a board. */
 #define _POSIX_C_SOURCE 200809L
 
-#include "patience.h"
+#include "deadline.h"
 #include "port.h"
 #include "say.h"
 

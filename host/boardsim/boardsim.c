@@ -7,168 +7,24 @@
  *
  * While a reply can't go out because nobody takes it, the line is not read. So at most one reply waits, and none is lost.
  */
-#define _GNU_SOURCE /* posix_openpt, cfmakeraw, pipe2, POLLRDHUP */
+#define _GNU_SOURCE /* pipe2, POLLRDHUP */
 
+#include "end.h"
 #include "sim.h"
+#include "sim_line.h"
+#include "sim_options.h"
 #include "store_file.h"
 
 #include <errno.h>
 #include <fcntl.h>
-#include <getopt.h>
-#include <netdb.h>
 #include <poll.h>
 #include <signal.h>
-#include <stdarg.h>
 #include <stdio.h>
 #include <stdlib.h>
 #include <string.h>
 #include <sys/socket.h>
-#include <termios.h>
 #include <time.h>
 #include <unistd.h>
-
-enum status { STATUS_DONE = 0, STATUS_STORE_REFUSED = 1, STATUS_USAGE = 2, STATUS_SYSTEM = 3 };
-
-static const char help[] =
-    "usage: boardsim --store FILE --id N --serial TEXT --model TEXT (--pty | --tcp PORT)\n"
-    "                [--listen ADDRESS] [--step-ms N] [-v]\n"
-    "\n"
-    "A simulated board. It can be killed at any moment, also in an erase, and started again.\n"
-    "\n"
-    "  --store FILE      the board's 128 stored bytes; an unused store is made where there is no such file\n"
-    "  --id N            the monitor ID, 1 to 8\n"
-    "  --serial TEXT     the serial number, 0 to 16 bytes\n"
-    "  --model TEXT      the model, 0 to 16 bytes\n"
-    "  --pty             talk on a pseudo-terminal; its name is printed on a line\n"
-    "  --tcp PORT        talk on a TCP port, to one client at a time; the port is printed on a line; 0: any free port\n"
-    "  --listen ADDRESS  with --tcp: the address to listen on instead of 127.0.0.1; nobody is asked for a password\n"
-    "  --step-ms N       milliseconds before each erase step, 0 to 60000; default 0, as fast as it can\n"
-    "  -v                a line on standard error for each answer other than waiting and more\n"
-    "  --help            this text\n"
-    "\n"
-    "SIGTERM or SIGINT ends it. Exit status: 0 done, 1 the board refused its store, 2 usage, 3 the system refused something.\n";
-
-/* ---- saying what went wrong */
-
-/* Ends the program with a sentence. */
-__attribute__((format(printf, 2, 3), noreturn)) static void end_with(enum status status, const char *format, ...)
-{
-    va_list values;
-
-    fputs("boardsim: ", stderr);
-    va_start(values, format);
-    vfprintf(stderr, format, values);
-    va_end(values);
-    fputc('\n', stderr);
-    if (status == STATUS_USAGE)
-        fputs("boardsim --help tells more.\n", stderr);
-    exit(status);
-}
-
-/* Ends the program where a system call failed. */
-__attribute__((noreturn)) static void end_system(const char *doing, const char *with)
-{
-    end_with(STATUS_SYSTEM, "%s %s: %s", doing, with, strerror(errno));
-}
-
-/* ---- options */
-
-struct options {
-    const char *store, *serial, *model, *port, *address;
-    bool pty, verbose;
-    uint8_t id;
-    int step_ms;
-};
-
-static long number_in(const char *option, const char *text, long first, long last)
-{
-    char *end;
-    long number;
-
-    errno = 0;
-    number = strtol(text, &end, 10);
-    if (errno != 0 || end == text || *end != '\0' || number < first || number > last)
-        end_with(STATUS_USAGE, "--%s takes a number from %ld to %ld, not '%s'", option, first, last, text);
-    return number;
-}
-
-static const char *text_in(const char *option, const char *text)
-{
-    if (strlen(text) > BOARD_TEXT_MAX)
-        end_with(STATUS_USAGE, "--%s takes at most %d bytes, and '%s' has %zu", option, BOARD_TEXT_MAX, text, strlen(text));
-    return text;
-}
-
-static void take_option(struct options *options, int option)
-{
-    switch (option) {
-    case 's':
-        options->store = optarg;
-        break;
-    case 'i':
-        options->id = (uint8_t)number_in("id", optarg, 1, 8);
-        break;
-    case 'n':
-        options->serial = text_in("serial", optarg);
-        break;
-    case 'm':
-        options->model = text_in("model", optarg);
-        break;
-    case 'p':
-        options->pty = true;
-        break;
-    case 't':
-        number_in("tcp", optarg, 0, 65535);
-        options->port = optarg;
-        break;
-    case 'l':
-        options->address = optarg;
-        break;
-    case 'w':
-        options->step_ms = (int)number_in("step-ms", optarg, 0, 60000);
-        break;
-    case 'v':
-        options->verbose = true;
-        break;
-    case 'h':
-        fputs(help, stdout);
-        exit(STATUS_DONE);
-    }
-}
-
-static void check_options(const struct options *options)
-{
-    if (options->store == NULL || options->id == 0 || options->serial == NULL || options->model == NULL)
-        end_with(STATUS_USAGE, "--store, --id, --serial and --model are needed");
-    if (options->pty == (options->port != NULL))
-        end_with(STATUS_USAGE, "one of --pty and --tcp is needed");
-    if (options->address != NULL && options->port == NULL)
-        end_with(STATUS_USAGE, "--listen goes with --tcp");
-}
-
-static struct options options_in(int argc, char **argv)
-{
-    static const struct option known[] = {
-        {"store", required_argument, NULL, 's'},  {"id", required_argument, NULL, 'i'},
-        {"serial", required_argument, NULL, 'n'}, {"model", required_argument, NULL, 'm'},
-        {"pty", no_argument, NULL, 'p'},          {"tcp", required_argument, NULL, 't'},
-        {"listen", required_argument, NULL, 'l'}, {"step-ms", required_argument, NULL, 'w'},
-        {"help", no_argument, NULL, 'h'},         {NULL, 0, NULL, 0},
-    };
-    struct options options = {0};
-    int option;
-
-    opterr = 0;
-    while ((option = getopt_long(argc, argv, "v", known, NULL)) != -1) {
-        if (option == '?')
-            end_with(STATUS_USAGE, "'%s' is no option, or its value is missing", argv[optind - 1]);
-        take_option(&options, option);
-    }
-    if (optind < argc)
-        end_with(STATUS_USAGE, "'%s' is not an option", argv[optind]);
-    check_options(&options);
-    return options;
-}
 
 /* ---- the store file */
 
@@ -195,78 +51,6 @@ static struct store_file open_store(const char *path)
     if (status != STORE_FILE_OPEN)
         end_system("can't open the store", path);
     return file;
-}
-
-/* ---- the line */
-
-static void make_nonblocking(int file, const char *name)
-{
-    int flags = fcntl(file, F_GETFL);
-
-    if (flags < 0 || fcntl(file, F_SETFL, flags | O_NONBLOCK) < 0)
-        end_system("can't set up", name);
-}
-
-static void print_line(const char *text)
-{
-    if (puts(text) == EOF || fflush(stdout) != 0)
-        end_system("can't print", text);
-}
-
-/* Opens a pseudo-terminal that passes bytes on as they are. Our own hold on its other end keeps it alive between clients. */
-static int open_pty(void)
-{
-    int line = posix_openpt(O_RDWR | O_NOCTTY | O_CLOEXEC), other_end;
-    struct termios raw;
-    const char *name;
-
-    if (line < 0 || grantpt(line) != 0 || unlockpt(line) != 0)
-        end_system("can't open", "a pseudo-terminal");
-    name = ptsname(line);
-    if (name == NULL)
-        end_system("can't tell the name of", "the pseudo-terminal");
-    other_end = open(name, O_RDWR | O_NOCTTY | O_CLOEXEC);
-    if (other_end < 0 || tcgetattr(other_end, &raw) != 0)
-        end_system("can't open", name);
-    cfmakeraw(&raw);
-    if (tcsetattr(other_end, TCSANOW, &raw) != 0)
-        end_system("can't set up", name);
-    make_nonblocking(line, name);
-    print_line(name);
-    return line;
-}
-
-static void print_port(int listener)
-{
-    struct sockaddr_storage address;
-    socklen_t length = sizeof address;
-    char port[32];
-    int wrong;
-
-    if (getsockname(listener, (struct sockaddr *)&address, &length) != 0)
-        end_system("can't tell the number of", "the port");
-    wrong = getnameinfo((struct sockaddr *)&address, length, NULL, 0, port, sizeof port, NI_NUMERICSERV);
-    if (wrong != 0)
-        end_with(STATUS_SYSTEM, "can't tell the number of the port: %s", gai_strerror(wrong));
-    print_line(port);
-}
-
-static int open_listener(const char *address, const char *port)
-{
-    struct addrinfo wanted = {.ai_socktype = SOCK_STREAM, .ai_flags = AI_NUMERICSERV}, *found;
-    int wrong = getaddrinfo(address, port, &wanted, &found), listener, on = 1;
-
-    if (wrong != 0)
-        end_with(STATUS_SYSTEM, "can't listen on %s: %s", address, gai_strerror(wrong));
-    listener = socket(found->ai_family, SOCK_STREAM | SOCK_CLOEXEC, 0);
-    if (listener < 0 || setsockopt(listener, SOL_SOCKET, SO_REUSEADDR, &on, sizeof on) != 0)
-        end_system("can't make a socket for", address);
-    if (bind(listener, found->ai_addr, found->ai_addrlen) != 0 || listen(listener, 8) != 0)
-        end_with(STATUS_SYSTEM, "can't listen on %s port %s: %s", address, port, strerror(errno));
-    freeaddrinfo(found);
-    make_nonblocking(listener, "the listening socket");
-    print_port(listener);
-    return listener;
 }
 
 /* ---- ending on a signal */
@@ -459,7 +243,7 @@ static int64_t step_due(const struct simulator *s)
 }
 
 /* How long poll() may wait, in milliseconds, rounded up; -1 for ever. */
-static int patience(const struct simulator *s)
+static int poll_timeout(const struct simulator *s)
 {
     int64_t gap = gap_due(s), step = step_due(s), first = gap < step ? gap : step, time = now();
 
@@ -490,7 +274,7 @@ static bool serve(struct simulator *s)
     };
     short line_ready;
 
-    if (poll(waits, 3, patience(s)) < 0) {
+    if (poll(waits, 3, poll_timeout(s)) < 0) {
         if (errno != EINTR)
             end_system("can't wait for", "the line");
         return true;

@@ -1,7 +1,7 @@
 /*
  * Tries boardsim as a program: on its line, on its store file, and killed at any moment.
  *
- *   test_boardsim PROGRAM FOLDER manners     options, refused stores, one client at a time, gaps, erases, the log
+ *   test_boardsim PROGRAM FOLDER behaviour   options, refused stores, one client at a time, gaps, erases, the log
  *   test_boardsim PROGRAM FOLDER kills       300 erases killed at random moments; each start after that finishes the erase
  *   test_boardsim PROGRAM FOLDER junk        a million random bytes; a thousand packets with one byte damaged
  *
@@ -402,7 +402,7 @@ static void expect_unused(int line)
     EXCHANGE(line, 'A', "F012", 'B', "F112");
 }
 
-/* ---- manners */
+/* ---- behaviour */
 
 /* Runs boardsim with words and gives its exit status; it must end by itself. */
 static int status_of(const char *const *more)
@@ -680,7 +680,7 @@ static void try_interrupt(void)
     REQUIRE(WIFEXITED(status) && WEXITSTATUS(status) == 0, "boardsim ended with status %X", (unsigned)status);
 }
 
-static void try_manners(void)
+static void try_behaviour(void)
 {
     try_usage();
     try_stores();
@@ -897,7 +897,7 @@ int main(int argc, char **argv)
     static const struct {
         const char *name;
         void (*run)(void);
-    } modes[] = {{"manners", try_manners}, {"kills", try_kills}, {"junk", try_junk}};
+    } modes[] = {{"behaviour", try_behaviour}, {"kills", try_kills}, {"junk", try_junk}};
 
     for (size_t i = 0; argc == 4 && i < COUNT(modes); i++) {
         if (strcmp(argv[3], modes[i].name) != 0)
@@ -909,6 +909,6 @@ int main(int argc, char **argv)
         remove_store();
         return 0;
     }
-    fprintf(stderr, "usage: test_boardsim PROGRAM FOLDER manners|kills|junk\n");
+    fprintf(stderr, "usage: test_boardsim PROGRAM FOLDER behaviour|kills|junk\n");
     return 2;
 }

@@ -49,13 +49,13 @@ static int open_listener(void)
 static bool take_request(int client)
 {
     struct pollfd wait = {.fd = client, .events = POLLIN};
-    int patience = -1;
+    int timeout = -1;
     char bytes[256];
 
-    while (poll(&wait, 1, patience) > 0) {
+    while (poll(&wait, 1, timeout) > 0) {
         if (read(client, bytes, sizeof bytes) <= 0)
             return false;
-        patience = 50;
+        timeout = 50;
     }
     return true;
 }

@@ -1,6 +1,6 @@
-/* Time that never jumps, and waits that end. */
-#ifndef PATIENCE_H
-#define PATIENCE_H
+/* Monotonic time, and waits with a deadline. */
+#ifndef DEADLINE_H
+#define DEADLINE_H
 
 #include <stdbool.h>
 

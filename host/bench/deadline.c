@@ -1,7 +1,7 @@
-/* Time that never jumps, and waits that end. */
+/* Monotonic time, and waits with a deadline. */
 #define _POSIX_C_SOURCE 200809L
 
-#include "patience.h"
+#include "deadline.h"
 
 #include <poll.h>
 #include <time.h>
