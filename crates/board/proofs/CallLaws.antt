@@ -258,10 +258,12 @@ module _ (b : Board) (m lent : List ℕ) (a : Accepting b m lent) where
         let n = named-told (stateOf b .ident) (rests .named) in
         record {
           addressed = record {
-            known = n .most;
-            serial-few = count-few (b .serial) serial (n .serial);
-            model-few = count-few (b .model) model (n .model);
-            ready = record { size = rests .size; ranged = rests .ranged };
+            serving = record {
+              known = n .most;
+              serial-few = count-few (b .serial) serial (n .serial);
+              model-few = count-few (b .model) model (n .model);
+              ready = record { size = rests .size; ranged = rests .ranged };
+            };
             room = a .room;
           };
           within = omega arith;

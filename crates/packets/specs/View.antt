@@ -25,12 +25,16 @@ addresseeOf Addressee.Own = packets.own
 addresseeOf Addressee.All = packets.all
 addresseeOf Addressee.Another = packets.another
 
--- a board that a packet may act on, with its store and a lent buffer
-pub record Addressed (id : ℕ) (serial model : Text) (m lent : List ℕ) : Type 0 where
+-- a board that serves packets, with its store
+pub record Serving (id : ℕ) (serial model : Text) (m : List ℕ) : Type 0 where
   pub known : id ≤ 8
   pub serial-few : serial .count ≤ 16
   pub model-few : model .count ≤ 16
   pub ready : Ready m
+
+-- and with a buffer for the reply
+pub record Addressed (id : ℕ) (serial model : Text) (m lent : List ℕ) : Type 0 where
+  pub serving : Serving id serial model m
   pub room : 64 ≤ length lent
 
 abbrev pub acted : Acted → erase.Identity → List ℕ → List ℕ → Result

@@ -2,7 +2,7 @@
 ghost use mathlib.Core.List.{List};
 ghost use mathlib.Core.Path.{_≡_};
 ghost use Prim.Native.Nat.{ℕ, _≤_};
-ghost use lib.ListN.{length, getD, set, take, replicate};
+ghost use lib.ListN.{length, getD, set, take};
 ghost use Rattle.wire.specs.Judge.{Whole};
 ghost use Rattle.wire.specs.Packet.{over, textOf};
 ghost use Rattle.messages.specs.View.{replyOf, replyCount};
@@ -11,7 +11,7 @@ ghost use Rattle.parser.specs.View.{parsed};
 ghost use Rattle.actions.specs.Act.{effect};
 ghost use Rattle.packets.specs.Packets.{replyWith, addressee, onPacket, toOwn, toAll};
 ghost use Rattle.actions.specs.View.{identityOf};
-ghost use Rattle.packets.specs.View.{addresseeOf, acted, result, Addressed};
+ghost use Rattle.packets.specs.View.{addresseeOf, acted, result, Serving, Addressed};
 use actions::Effect;
 use messages::message::Reply;
 use messages::write;
@@ -113,7 +113,7 @@ fn for_own(
 
 // For all boards: stored in silence, or an erase begun that owes nothing.
 fn for_all(id: u8, serial: Text, model: Text, asked: ParsedRequest, store: &mut [u8]) -> Acted
-    requires { ⌜ Addressed id serial model (now store) (replicate 64 0) ⌝ }
+    requires { ⌜ Serving id serial model (now store) ⌝ }
     ensures { λ r. ⌜ ((lent : List ℕ) → acted r (identityOf id serial model) (now (store .exit)) lent ≡ result (toAll (identityOf id serial model) (effect (identityOf id serial model) (now (store .entry)) (parsed asked)) lent) (now (store .entry))) ⌝ }
 {
     let decision = actions::decide(id, serial, model, asked, store);

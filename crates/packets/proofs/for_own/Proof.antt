@@ -37,14 +37,14 @@ commit-requires c κs =
     let start = d .before .before .before .before in
     let a = start .args in
     decided-ready (identityOf (a .id) (a .serial) (a .model)) (a .store .now) (parsed (a .asked)) (d .decide .result) (d .decide .ensures)
-    (start .pre .ready) (asked-few (a .asked) (sym (length-map (a .asked .bytes) (λ (x : ℕ). x)) ∙ start .good .1 .1 .1 .0 .1 .1 .1 .0 .1 .0 .1)) _ (c .before .before .before .before .effect .given .1)
+    (start .pre .serving .ready) (asked-few (a .asked) (sym (length-map (a .asked .bytes) (λ (x : ℕ). x)) ∙ start .good .1 .1 .1 .0 .1 .1 .1 .0 .1 .0 .1)) _ (c .before .before .before .before .effect .given .1)
 
 send-requires : tie.Need-send-requires
 send-requires c κs =
     let d = c .before .before .before .before .before .before .before .before .before .before in
     let start = d .before .before .before .before in
     let a = start .args in (
-      start .pre .known,
+      start .pre .serving .known,
       decided-few (identityOf (a .id) (a .serial) (a .model)) (a .store .now) (parsed (a .asked)) (d .decide .result) (d .decide .ensures) _
           (c .before .before .before .before .before .before .before .before .effect .given .1),
       start .pre .room,
