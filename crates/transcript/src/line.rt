@@ -60,7 +60,7 @@ fn put_word(out: &mut [u8], at: usize, answer: Answer) -> usize
 
 // Writes a refusal's number or a reply's bytes behind a space, from a place on; the place behind it.
 fn put_data(out: &mut [u8], at: usize, answer: Answer, reply: &[u8]) -> usize
-    requires { ⌜ (length (now reply) ≡ 64) × (at + 130 ≤ length (now out)) ⌝ }
+    requires { ⌜ (length (now reply) ≡ 64) × (at + 129 ≤ length (now out)) ⌝ }
     ensures { λ r. ⌜ (r ≡ at + length (dataOf (answerOf answer) (now (reply .entry)))) × (now (out .exit) ≡ paste (now (out .entry)) at (dataOf (answerOf answer) (now (reply .entry))) (length (dataOf (answerOf answer) (now (reply .entry))))) ⌝ }
 {
     if let Answer::Refused(refusal) = answer {
