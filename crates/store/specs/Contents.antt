@@ -1,7 +1,7 @@
 -- Power, date and tags in the store (document 01, 'What a good packet does' and 'Store'): what is read, what is accepted, what is stored.
 use mathlib.Core.Bool.{Bool, _&&_}
 use mathlib.Core.List.{List, [], _∷_, _++_}
-use Prim.Native.Nat.{ℕ}
+use Prim.Native.Nat.{ℕ, _+_}
 use lib.Dec.{eqb}
 use lib.ListN.{length, take, drop, replicate}
 use Rattle.messages.specs.declared.message.Date.{Date}
@@ -69,4 +69,6 @@ withLengths m n = write (write m formerLength (read m tagLength)) tagLength n
 
 -- the old tag, all 16 bytes, becomes the former tag; then the new tag; then both lengths, in bytes 10 and 11
 unfoldable pub tagStores : List ℕ → List ℕ → List Entry
-tagStores m tag = rangeOf 28 (take 16 (drop 12 m)) ++ (rangeOf 12 (padded tag) ++ bytesAround 84 10 (withLengths m (length tag)))
+tagStores m tag =
+    rangeOf 28 (take 16 (drop 12 m))
+    ++ (rangeOf 12 (padded tag) ++ bytesAround (tagLength .at) (tagLength .width + formerLength .width) (withLengths m (length tag)))
