@@ -21,11 +21,16 @@ OUT = target/host
 STATION = target/staticlib/libstation_c.a
 BOARD = target/staticlib/libboard_c.a
 
-BENCH_PARTS = bench command deadline decode erase fields help inside line options port port_serial port_tcp reply request say show sim \
-        store_file talk words
-BENCH_OBJECTS = $(BENCH_PARTS:%=$(OUT)/%.o)
-BOARDSIM_PARTS = boardsim end sim sim_line sim_options store_file
-BOARDSIM_OBJECTS = $(BOARDSIM_PARTS:%=$(OUT)/%.o)
+# Each folder of host has its objects in a folder of its own, for a file in another may have the same name.
+OBJECTS = $(OUT)/objects
+BENCH_PARTS = bench command deadline decode erase fields help inside line options port port_serial port_tcp reply request say show \
+        talk words
+BOARDSIM_PARTS = boardsim end line options
+# The simulated board that both programs have.
+SIMULATION_PARTS = sim store_file
+SIMULATION_OBJECTS = $(SIMULATION_PARTS:%=$(OBJECTS)/simulation/%.o)
+BENCH_OBJECTS = $(BENCH_PARTS:%=$(OBJECTS)/bench/%.o) $(SIMULATION_OBJECTS)
+BOARDSIM_OBJECTS = $(BOARDSIM_PARTS:%=$(OBJECTS)/boardsim/%.o) $(SIMULATION_OBJECTS)
 CRATE_FILES := crates.txt $(shell find crates -name must-fail -prune -o -type f -print)
 
 .PHONY: all run test install clean
@@ -39,17 +44,13 @@ $(OUT)/bench: $(BENCH_OBJECTS) $(STATION) $(BOARD)
 $(OUT)/boardsim: $(BOARDSIM_OBJECTS) $(BOARD)
 	$(CC) $(CFLAGS) -o $@ $^
 
-# Answers bench with any bytes, for host/check_bench.
-$(OUT)/test_peer: $(OUT)/test_peer.o
+# Answers bench with any bytes, for host/test/check_bench.
+$(OUT)/bench_peer: $(OBJECTS)/test/bench_peer.o
 	$(CC) $(CFLAGS) -o $@ $^
 
-vpath %.c host/bench host/boardsim host/test
-
-$(OUT)/%.o: %.c $(wildcard host/*.h host/*/*.h) | $(OUT)
-	$(CC) -std=c11 $(WARNINGS) -Ihost -Ihost/boardsim $(CFLAGS) -c -o $@ $<
-
-$(OUT):
-	mkdir -p $@
+$(OBJECTS)/%.o: host/%.c $(wildcard host/*.h host/*/*.h)
+	@mkdir -p $(@D)
+	$(CC) -std=c11 $(WARNINGS) -Ihost $(CFLAGS) -c -o $@ $<
 
 # rt proves one crate at a time, so the archives are made one after the other.
 target/staticlib/lib%.a: $(CRATE_FILES)

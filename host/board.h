@@ -13,8 +13,9 @@
  * - Between two calls nobody but the board changes its state or its store. Only a start gives a state; a state goes with the store
  *   it was started on.
  * - The store takes each byte whole or not at all, one after another in the order they are stored, and keeps them without supply.
- * - The supply holds up for 40 byte stores once a call has begun, so that only an erase can be cut. While an erase is pending a
- *   call stores at most one byte; every other call stores at most 40.
+ * - The supply holds up for 40 byte stores once a call has begun, so that only an erase can be cut. As the code is written, a call
+ *   stores at most one byte while an erase is pending, and every other call at most 40; what is proved is what the store holds at
+ *   the end of a call.
  * - After a power cut the board is started again on the same store, with the same ID, serial number and model.
  *
  * The functions keep nothing of their own, so boards with a state and a store each may run beside one another.

@@ -2,8 +2,8 @@
 #include "inside.h"
 
 #include "say.h"
-#include "sim.h"
-#include "store_file.h"
+#include "simulation/sim.h"
+#include "simulation/store_file.h"
 
 #include <stdlib.h>
 #include <string.h>

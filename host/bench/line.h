@@ -11,7 +11,7 @@
 struct line {
     struct port port;
     bool verbose;                                   /* show the bytes both ways */
-    bool is_rested;                                 /* nothing unexpected can be on its way, and the board holds no half packet */
+    bool is_rested;                                 /* nothing unexpected can arrive, and the board holds no half packet */
     void (*each_second)(long seconds, void *about); /* told while a reply is awaited; may be null */
     void *about;
 };

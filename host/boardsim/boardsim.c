@@ -10,10 +10,10 @@
 #define _GNU_SOURCE /* pipe2, POLLRDHUP */
 
 #include "end.h"
-#include "sim.h"
-#include "sim_line.h"
-#include "sim_options.h"
-#include "store_file.h"
+#include "line.h"
+#include "options.h"
+#include "simulation/sim.h"
+#include "simulation/store_file.h"
 
 #include <errno.h>
 #include <fcntl.h>

@@ -92,7 +92,7 @@ struct Comparison {
 
 impl Comparison {
     fn differ(&self, what: &str) -> ! {
-        eprintln!("compare_board: list {}: {what}", self.list);
+        eprintln!("board_against_rust: list {}: {what}", self.list);
         let last: Vec<String> = self.notes[self.notes.len().saturating_sub(100)..].iter().map(Note::text).collect();
         eprintln!("the last calls: {}", last.join(", "));
         std::process::exit(1);
@@ -421,10 +421,10 @@ fn main() {
     comparison.lists();
     let (counts, lists) = (std::mem::take(&mut comparison.counts), comparison.list);
     if !all_came_up(&counts) {
-        eprintln!("compare_board: one of these came up fewer than {LEAST} times");
+        eprintln!("board_against_rust: one of these came up fewer than {LEAST} times");
         std::process::exit(1);
     }
     let spoiled = comparison.spoiled_states();
     println!("changed states: {} refused with nothing changed, {} taken for sound", spoiled.refused, spoiled.taken);
-    println!("compare_board: {} calls in {lists} lists alike", counts.calls());
+    println!("board_against_rust: {} calls in {lists} lists alike", counts.calls());
 }

@@ -2,7 +2,7 @@
  * A peer for tests: listens on a TCP port of its own, prints the port's number, takes one client and answers each request with the
  * bytes that an argument says, whatever they are.
  *
- *   test_peer ANSWER...
+ *   bench_peer ANSWER...
  *
  * ANSWER is hexadecimal digits; '-' is no answer; 'close' closes the connection; 'babble' sends 00h without end. MS:ANSWER waits so
  * many milliseconds first; !ANSWER waits for no request. A request is what comes until 50 ms of silence. The peer ends when the

@@ -1,6 +1,6 @@
 /* The command line of boardsim. */
-#ifndef SIM_OPTIONS_H
-#define SIM_OPTIONS_H
+#ifndef OPTIONS_H
+#define OPTIONS_H
 
 #include <stdbool.h>
 #include <stdint.h>

@@ -15,7 +15,7 @@ enum { LONGEST = 10000000, ANSWERS = BOARD_REPLY + 1 };
 static uint8_t recording[LONGEST];
 static unsigned long counts[ANSWERS];
 
-static _Alignas(16) uint8_t state[STATE_SIZE]; /* each board has its own size; bench/board gives it to the compiler */
+static _Alignas(16) uint8_t state[STATE_SIZE]; /* each board has its own size; measure/board gives it to the compiler */
 static uint8_t store[BOARD_STORE_SIZE];
 
 static void start(void)

@@ -1,9 +1,9 @@
-// Writes the recording that bench/board and bench/replay play: packets of all kinds but accepted erases, to this board, to all and to others, good,
-// nearly good and damaged, and junk.
+// Writes the recording that measure/board and measure/replay play: packets of all kinds but accepted erases, to this board, to all and
+// to others, good, nearly good and damaged, and junk.
 #![allow(dead_code)]
-#[path = "../host/compare_board/inputs.rs"]
+#[path = "../host/test/board_against_rust/inputs.rs"]
 mod inputs;
-#[path = "../host/compare_board/plain.rs"]
+#[path = "../host/test/board_against_rust/plain.rs"]
 mod plain;
 
 use std::io::Write;

@@ -1,7 +1,7 @@
 /* The line that boardsim talks on. */
 #define _GNU_SOURCE /* posix_openpt, cfmakeraw */
 
-#include "sim_line.h"
+#include "line.h"
 
 #include "end.h"
 

@@ -1,6 +1,6 @@
 /* The line that boardsim talks on. Where one can't be had, the program ends. */
-#ifndef SIM_LINE_H
-#define SIM_LINE_H
+#ifndef LINE_H
+#define LINE_H
 
 /* Opens a pseudo-terminal that passes bytes on as they are, and prints its name. */
 int open_pty(void);

@@ -61,7 +61,7 @@ static void make_pages(void)
         uint8_t *three = mmap(NULL, 3 * page_size, PROT_NONE, MAP_PRIVATE | MAP_ANONYMOUS, -1, 0);
 
         if (three == MAP_FAILED || mprotect(three + page_size, page_size, PROT_READ | PROT_WRITE) != 0) {
-            perror("test_station");
+            perror("station_from_c");
             exit(1);
         }
         pages[page] = three + page_size;

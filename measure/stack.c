@@ -26,7 +26,7 @@ static size_t recorded;
 static uint8_t *stack;
 static size_t depth;
 
-static _Alignas(16) uint8_t state[STATE_SIZE]; /* each board has its own size; bench/board gives it to the compiler */
+static _Alignas(16) uint8_t state[STATE_SIZE]; /* each board has its own size; measure/board gives it to the compiler */
 static uint8_t store[BOARD_STORE_SIZE], reply[BOARD_REPLY_ROOM];
 static unsigned answers, refusals;
 

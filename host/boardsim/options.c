@@ -1,7 +1,7 @@
 /* The command line of boardsim. */
 #define _GNU_SOURCE /* getopt_long */
 
-#include "sim_options.h"
+#include "options.h"
 
 #include "board.h"
 #include "end.h"

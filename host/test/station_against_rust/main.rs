@@ -123,7 +123,7 @@ const FLAGS: [(u8, &[u8], usize); 8] = [
 ];
 
 fn differ(input: &str, plain: &impl std::fmt::Debug, proved: &impl std::fmt::Debug) -> ! {
-    eprintln!("compare: {input}\nplain  {plain:X?}\nproved {proved:X?}");
+    eprintln!("station_against_rust: {input}\nplain  {plain:X?}\nproved {proved:X?}");
     std::process::exit(1);
 }
 
@@ -146,8 +146,8 @@ fn main() {
     let encoder = shown("encoder", &comparison.encoder, &ENCODER_RESULTS);
     let reader = shown("reader", &comparison.reader, &READER_RESULTS);
     if !(encoder && reader) {
-        eprintln!("compare: a result came up fewer than {LEAST} times");
+        eprintln!("station_against_rust: a result came up fewer than {LEAST} times");
         std::process::exit(1);
     }
-    println!("compare: {} inputs alike", comparison.encoder.iter().chain(&comparison.reader).sum::<u64>());
+    println!("station_against_rust: {} inputs alike", comparison.encoder.iter().chain(&comparison.reader).sum::<u64>());
 }

@@ -1,15 +1,15 @@
-// The plain Rust board of host/compare_board behind the functions of host/board.h, to be measured beside the proved one. It uses no
-// standard library, as firmware would. Its state is the Rust value itself in the caller's memory.
+// The plain Rust board of host/test/board_against_rust behind the functions of host/board.h, to be measured beside the proved one. It
+// uses no standard library, as firmware would. Its state is the Rust value itself in the caller's memory.
 #![no_std]
 #[allow(dead_code)]
-#[path = "../host/compare_board/plain.rs"]
+#[path = "../host/test/board_against_rust/plain.rs"]
 mod plain;
 
 use core::mem::MaybeUninit;
 use core::slice::{from_raw_parts, from_raw_parts_mut};
 use plain::{Answer, Board, UNUSED};
 
-// The size of a state, which bench/board gives to the C programs.
+// The size of a state, which measure/board gives to the C programs.
 const _: () = assert!(size_of::<Board>() == 160);
 
 // Where a check of an index fails, the board stops.

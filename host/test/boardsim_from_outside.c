@@ -1,9 +1,9 @@
 /*
  * Tries boardsim as a program: on its line, on its store file, and killed at any moment.
  *
- *   test_boardsim PROGRAM FOLDER behaviour   options, refused stores, one client at a time, gaps, erases, the log
- *   test_boardsim PROGRAM FOLDER kills       300 erases killed at random moments; each start after that finishes the erase
- *   test_boardsim PROGRAM FOLDER junk        a million random bytes; a thousand packets with one byte damaged
+ *   boardsim_from_outside PROGRAM FOLDER behaviour   options, refused stores, one client at a time, gaps, erases, the log
+ *   boardsim_from_outside PROGRAM FOLDER kills       300 erases killed at random moments; each start after that finishes the erase
+ *   boardsim_from_outside PROGRAM FOLDER junk        a million random bytes; a thousand packets with one byte damaged
  *
  * FOLDER is for store files. A failure ends the program with status 1 and a sentence.
  */
@@ -710,7 +710,7 @@ static void expect_partly_erased(const uint8_t *before)
     REQUIRE(memcmp(now + place, before + place, BOARD_STORE_SIZE - place) == 0, "bytes behind %zu changed", place);
 }
 
-/* Starts a board whose erase is pending and kills it on its way. */
+/* Starts a board whose erase is pending and kills it while it erases. */
 static bool kill_again(void)
 {
     struct child child = START(NULL, "--tcp", "0", "--step-ms", "1");
@@ -903,12 +903,12 @@ int main(int argc, char **argv)
         if (strcmp(argv[3], modes[i].name) != 0)
             continue;
         program = argv[1];
-        snprintf(store_path, sizeof store_path, "%s/test_boardsim_%s.store", argv[2], modes[i].name);
+        snprintf(store_path, sizeof store_path, "%s/boardsim_from_outside_%s.store", argv[2], modes[i].name);
         signal(SIGPIPE, SIG_IGN);
         modes[i].run();
         remove_store();
         return 0;
     }
-    fprintf(stderr, "usage: test_boardsim PROGRAM FOLDER behaviour|kills|junk\n");
+    fprintf(stderr, "usage: boardsim_from_outside PROGRAM FOLDER behaviour|kills|junk\n");
     return 2;
 }
