@@ -1,28 +1,41 @@
 -- What a decision's reply is where no bytes stand beside it, and what a text or a count past its 16 bytes comes to.
-use mathlib.Core.Path.{_≡_, refl, sym, _∙_, subst}
+use mathlib.Core.Path.{_≡_, refl, sym, ap, _∙_, subst}
 use mathlib.Core.Bool.{true}
 use mathlib.Core.List.{List, [], _∷_}
-use Prim.Native.Nat.{ℕ, _≤_}
+use Prim.Native.Nat.{ℕ, _≤_, _<_, min}
 use native.Mathlib.Omega.{arith}
+use native.Mathlib.Decide.{decLt}
 use lib.Dec.{leb}
 use lib.ListN.{length, take}
 use lib.Seq.{take-append-le, take-all}
 use borrow.Author.Tests.{leb-true}
 use Rattle.plan.specs.Stores.{Entry}
 use Rattle.plan.specs.Plans.{storesOf}
-use Rattle.messages.specs.View.{replyOf, replyCount}
+use Rattle.messages.specs.View.{replyOf}
+use Rattle.messages.specs.Inner.{replyCount}
 use Rattle.messages.specs.declared.message.Reply.{Reply}
-use Rattle.store.specs.Layout.{Field, read}
-use Rattle.store.specs.Contents.{textOf}
-use Rattle.store.specs.declared.contents.Text.{Text}
-use Rattle.store.proofs.StoreLaws.{isField, both, in-range-one}
+use Rattle.store.specs.Fields.{Field, read}
+use Rattle.store.specs.Layout.{tagLength, formerLength}
+use Rattle.store.specs.Settings.{settingAt, Listed, found}
+use Rattle.store.specs.Contents.{itemBytes}
+use Rattle.store.specs.declared.contents.ItemBytes.{ItemBytes}
+use Rattle.store.specs.declared.settings.Row.{Row}
+use Rattle.store.specs.declared.settings.Found.{Found}
+use Rattle.wire.proofs.Tests.{both}
+use Rattle.store.proofs.StoreLaws.{isField, in-range-one}
+use Rattle.store.proofs.SettingLaws.{setting-listed}
 use Rattle.actions.specs.Act as act
-use Rattle.actions.specs.View.{seenText, Decides, Ready}
+use Rattle.actions.specs.View.{identityBytes}
+use Rattle.actions.specs.Inner.{Decides, StoreInRange}
 use Rattle.actions.specs.declared.Effect.{Effect}
 use Rattle.actions.specs.declared.Decision.{Decision}
 
 pub decides-as : {d : Decision} {e f : act.Effect} → Decides d e → e ≡ f → Decides d f
 decides-as {d} h q = subst (λ (e : act.Effect). Decides d e) q h
+
+-- what was found at a page and a code is a row of the list
+pub row-listed : (page code : ℕ) (r : Row) {f : Found} → found f ≡ settingAt page code → f ≡ Found.Listed r → Listed r
+row-listed page code r e q = setting-listed page code r (sym e ∙ ap found q)
 
 -- where no bytes are counted, it doesn't matter which stand there
 no-bytes : (r : Reply) (s t : List ℕ) → replyCount r ≡ 0 → replyOf r s ≡ replyOf r t
@@ -36,17 +49,26 @@ no-bytes (Reply.Item i count) s t e = rw e
 no-bytes (Reply.TagWritten o count) s t e = rw e
 
 pub decides-reply : (d : Decision) (r : Reply) (es : List Entry) → d .effect ≡ Effect.Replies r → storesOf (d .plan) ≡ es
-    → replyCount r ≡ 0 → (bytes : List ℕ) → Decides d (act.replies (replyOf r bytes) es)
-decides-reply d r es q p e bytes =
-    record { effect = rw (q, p, no-bytes r (d .bytes) bytes e); sendable = rw (q, e) (omega arith) }
+    → replyCount r ≡ 0 → Decides d (act.replies (replyOf r []) es)
+decides-reply d r es q p e = record { effect = rw (q, p, no-bytes r (d .bytes) [] e); sendable = rw (q, e) (omega arith) }
 
-pub seen-whole : (t : Text) → length (t .bytes) ≡ 16 → t .count ≤ 16 → seenText t ≡ textOf t
+pub seen-whole : (t : ItemBytes) → length (t .bytes) ≡ 16 → t .count ≤ 16 → identityBytes t ≡ itemBytes t
 seen-whole t l h = take-append-le (t .count) (t .bytes) (0 ∷ []) (omega arith)
 
--- a count past a list takes all of it
-pub past-same : (n k : ℕ) (s : List ℕ) → length s ≤ n → length s ≤ k → take n s ≡ take k s
-past-same n k s h l = take-all n s h ∙ sym (take-all k s l)
+-- a count past 16 bytes takes all of them
+pub take-min : (n : ℕ) (s : List ℕ) → length s ≡ 16 → take (min n 16) s ≡ take n s
+take-min n s l = go (decLt n 16)
+  where
+    go : Dec (n < 16) → take (min n 16) s ≡ take n s
+    go (yes x) = let e : min n 16 ≡ n = omega arith in rw e
+    go (no x) = take-all (min n 16) s (omega arith) ∙ sym (take-all n s (omega arith))
 
--- in a store that is ready a field holds at most what it may
-pub field-at-most : (m : List ℕ) (f : Field) → Ready m → isField f ≡ true → read m f ≤ f .most
+-- in a store that is in range a field holds at most what it may
+field-at-most : (m : List ℕ) (f : Field) → StoreInRange m → isField f ≡ true → read m f ≤ f .most
 field-at-most m f r e = leb-true (read m f) (f .most) (both (leb (f .least) (read m f)) (leb (read m f) (f .most)) (in-range-one m f (r .ranged) e) .1)
+
+pub tag-few : (m : List ℕ) → StoreInRange m → (length m ≡ 128) × (read m tagLength ≤ 16)
+tag-few m r = (r .size, field-at-most m tagLength r refl)
+
+pub former-few : (m : List ℕ) → StoreInRange m → (length m ≡ 128) × (read m formerLength ≤ 16)
+former-few m r = (r .size, field-at-most m formerLength r refl)

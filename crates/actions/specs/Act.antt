@@ -1,6 +1,6 @@
--- What a good packet does (document 01, the section of that name): to a request belong what is stored, in order, and a reply, or the
--- beginning of an erase. Anything that is no request gets NULL.
-use mathlib.Core.Bool.{Bool, true, false, cond, _&&_}
+-- What a good packet does (docs/RULES.md, the section of that name, AC1 to AC10): to a request belong what is stored, in order, and a reply,
+-- or the beginning of an erase. Anything that is no request gets NULL.
+use mathlib.Core.Bool.{Bool, cond, _&&_}
 use mathlib.Core.List.{List, []}
 use mathlib.Core.Option.{Option, none, some}
 use Prim.Native.Nat.{ℕ}
@@ -11,11 +11,12 @@ use Rattle.messages.specs.Message.Request.{getParameter, setParameter, powerRea
 use Rattle.messages.specs.Message.Reply.{null, getReply, setReply, powerReadReply, powerControlReply, dateReadReply, dateWriteReply, itemReply, tagWriteReply}
 use Rattle.messages.specs.declared.message.Date.{Date}
 use Rattle.messages.specs.declared.message.Item.{Item}
-use Rattle.store.specs.Layout.{power, fieldStores}
-use Rattle.store.specs.Settings.{rowOf, fieldOf, settingAt, accepts, kept, current}
+use Rattle.store.specs.Fields.{fieldStores}
+use Rattle.store.specs.Layout.{power}
+use Rattle.store.specs.Settings.{fieldOf, settingAt, accepts, kept, current}
 use Rattle.store.specs.Contents.{isOn, dateOf, isAccepted, dateStores, tagOf, formerTagOf, tagStores}
-use Rattle.store.specs.declared.settings.Setting.{Setting}
-use Rattle.erase.specs.Board.{Identity}
+use Rattle.store.specs.declared.settings.Row.{Row}
+use Rattle.calls.specs.Board.{Identity}
 
 -- what a packet brings about: a reply with bytes to store, in order, or the beginning of an erase
 pub data Effect : Type 0 where
@@ -27,13 +28,19 @@ abbrev pub says : Reply → Effect
 says r = replies r []
 
 -- F0/01, the erase
+abbrev pub erasePage : ℕ
+erasePage = 0xF0
+
+abbrev pub eraseCode : ℕ
+eraseCode = 0x01
+
 abbrev pub isErase : ℕ → ℕ → Bool
-isErase page code = eqb page 0xF0 && eqb code 0x01
+isErase page code = eqb page erasePage && eqb code eraseCode
 
 -- ---- Get
 
-abbrev pub getListed : List ℕ → ℕ → ℕ → Option Setting → Reply
-getListed m page code (some s) = getReply 0 page code 0 (rowOf s .largest) (current m s)
+abbrev pub getListed : List ℕ → ℕ → ℕ → Option Row → Reply
+getListed m page code (some r) = getReply 0 page code 0 (r .largest) (current m r)
 getListed m page code none = getReply 1 page code 0 0 0
 
 unfoldable pub getEffect : List ℕ → ℕ → ℕ → Effect
@@ -41,11 +48,11 @@ getEffect m page code = says (cond (isErase page code) (getReply 0 page code 1 1
 
 -- ---- Set: in standby the erase alone is accepted
 
-abbrev pub setListed : List ℕ → ℕ → ℕ → ℕ → Option Setting → Effect
-setListed m page code v (some s) =
-    cond (isOn m && accepts s v)
-    (replies (setReply 0 page code 0 (rowOf s .largest) v) (fieldStores m (fieldOf s) (kept s v)))
-    (says (setReply 1 page code 0 (rowOf s .largest) v))
+abbrev pub setListed : List ℕ → ℕ → ℕ → ℕ → Option Row → Effect
+setListed m page code v (some r) =
+    cond (isOn m && accepts (r .values) v)
+    (replies (setReply 0 page code 0 (r .largest) v) (fieldStores m (fieldOf r) (kept (r .values) v)))
+    (says (setReply 1 page code 0 (r .largest) v))
 setListed m page code v none = says (setReply 1 page code 0 0 v)
 
 unfoldable pub setEffect : List ℕ → ℕ → ℕ → ℕ → Effect

@@ -1,43 +1,13 @@
--- What the values of decisions in code mean. A text whose count is past its 16 bytes is seen as 17 bytes, which is out of range.
-use mathlib.Core.Bool.{true}
+-- What a board's identity in code means. A serial number or a model whose count is past its 16 bytes is seen as 17 bytes, which is out of
+-- range (docs/RULES.md, ST4).
 use mathlib.Core.List.{List, [], _∷_, _++_}
-use mathlib.Core.Path.{_≡_}
-use Prim.Native.Nat.{ℕ, _≤_}
-use lib.ListN.{length, take}
-use Rattle.plan.specs.Stores.{Entry}
-use Rattle.plan.specs.Plans.{storesOf}
-use Rattle.messages.specs.View.{replyOf, replyCount}
-use Rattle.store.specs.Layout.{fieldsInRange}
-use Rattle.store.specs.declared.contents.Text.{Text}
-use Rattle.erase.specs.Board.{Identity}
-use Rattle.actions.specs.Act as act
-use Rattle.actions.specs.declared.Effect.{Effect}
-use Rattle.actions.specs.declared.Decision.{Decision}
+use Prim.Native.Nat.{ℕ}
+use lib.ListN.{take}
+use Rattle.store.specs.declared.contents.ItemBytes.{ItemBytes}
+use Rattle.calls.specs.Board.{Identity}
 
-abbrev pub seenText : Text → List ℕ
-seenText t = take (t .count) (t .bytes ++ (0x00 ∷ []))
+abbrev pub identityBytes : ItemBytes → List ℕ
+identityBytes t = take (t .count) (t .bytes ++ (0x00 ∷ []))
 
-abbrev pub identityOf : ℕ → Text → Text → Identity
-identityOf id serial model = record { id = id; serial = seenText serial; model = seenText model }
-
-abbrev pub effectWith : Effect → List ℕ → List Entry → act.Effect
-effectWith (Effect.Replies r) bytes es = act.replies (replyOf r bytes) es
-effectWith Effect.Begins bytes es = act.begins
-
-abbrev pub decision : Decision → act.Effect
-decision d = effectWith (d .effect) (d .bytes) (storesOf (d .plan))
-
--- the bytes beside a reply are there
-abbrev pub Sendable : Effect → Type 0
-Sendable (Effect.Replies r) = replyCount r ≤ 16
-Sendable Effect.Begins = Unit {0}
-
--- what a decision says, and that its reply can be sent
-pub record Decides (d : Decision) (e : act.Effect) : Type 0 where
-  pub effect : decision d ≡ e
-  pub sendable : Sendable (d .effect)
-
--- a store that a decision is made on
-pub record Ready (m : List ℕ) : Type 0 where
-  pub size : length m ≡ 128
-  pub ranged : fieldsInRange m ≡ true
+abbrev pub identityOf : ℕ → ItemBytes → ItemBytes → Identity
+identityOf id serial model = record { id = id; serial = identityBytes serial; model = identityBytes model }

@@ -1,32 +1,42 @@
 // What a request does: a decision on the store as it is.
 ghost use mathlib.Core.Bool.{cond};
-ghost use mathlib.Core.List.{List, []};
+ghost use mathlib.Core.List.{[]};
+ghost use mathlib.Core.Option.{some};
 ghost use mathlib.Core.Path.{_≡_};
-ghost use Prim.Native.Nat.{ℕ, _≤_};
+ghost use Prim.Native.Nat.{_≤_, min};
 ghost use lib.Dec.{eqb};
 ghost use lib.ListN.{take};
 ghost use Rattle.plan.specs.Plans.{storesOf};
-ghost use Rattle.messages.specs.View.{replyOf, replyCount};
+ghost use Rattle.messages.specs.View.{requestOf, replyOf};
+ghost use Rattle.messages.specs.Inner.{replyCount};
 ghost use Rattle.parser.specs.View.{parsed};
-ghost use Rattle.actions.specs.Act.{effect, getEffect, setEffect, powerReadEffect, powerControlEffect, dateWriteEffect, isErase, itemOf, says, replies, begins};
-ghost use Rattle.store.specs.Contents.{tagStores, textOf};
+ghost use Rattle.actions.specs.Act.{effectOf, effect, getListed, getEffect, setListed, setEffect, powerReadEffect, powerControlEffect, dateWriteEffect, isErase, itemOf, says, replies, begins};
+ghost use Rattle.store.specs.Settings.{settingAt, Listed};
+ghost use Rattle.store.specs.Contents.{tagStores, itemBytes};
 ghost use Rattle.messages.specs.Message.Reply.{setReply, itemReply, tagWriteReply};
-ghost use Rattle.actions.specs.View.{Decides, identityOf, Ready};
+ghost use Rattle.actions.specs.View.{identityOf};
+ghost use Rattle.actions.specs.Inner.{Decides, StoreInRange};
 use messages::message::Date;
 use messages::message::DateAnswer;
 use messages::message::Item;
-use messages::message::Outcome;
 use messages::message::Parameter;
 use messages::message::PowerMode;
 use messages::message::Reply;
 use messages::message::Request;
+use messages::message::Status;
 use parser::parse::Parsed;
 use parser::parse::ParsedRequest;
 use plan::Plan;
 use store::contents;
-use store::contents::Text;
+use store::contents::ItemBytes;
+use store::settings;
 use store::settings::Found;
-use store::settings::Setting;
+use store::settings::Row;
+
+// The erase's page and code.
+pub const ERASE_PAGE: u8 = 0xF0;
+
+pub const ERASE_CODE: u8 = 0x01;
 
 // A reply, or the beginning of an erase.
 pub enum Effect {
@@ -42,8 +52,14 @@ pub struct Decision {
 }
 
 // What a packet's text does: the request in it, or NULL.
-pub fn decide(id: u8, serial: Text, model: Text, asked: ParsedRequest, store: &[u8]) -> Decision
-    requires { ⌜ Ready (now store) ⌝ }
+pub fn decide(
+    id: u8,
+    serial: ItemBytes,
+    model: ItemBytes,
+    asked: ParsedRequest,
+    store: &[u8],
+) -> Decision
+    requires { ⌜ StoreInRange (now store) ⌝ }
     requires { ⌜ (serial .count ≤ 16) × (model .count ≤ 16) ⌝ }
     ensures { λ r. ⌜ Decides r (effect (identityOf id serial model) (now (store .entry)) (parsed asked)) ⌝ }
 {
@@ -52,6 +68,22 @@ pub fn decide(id: u8, serial: Text, model: Text, asked: ParsedRequest, store: &[
     let Parsed::Request(request) = parsed else {
         return unchanged(Reply::Null);
     };
+    decide_request(id, serial, model, request, bytes, store)
+}
+
+// What a request does.
+fn decide_request(
+    id: u8,
+    serial: ItemBytes,
+    model: ItemBytes,
+    request: Request,
+    bytes: [u8; 16],
+    store: &[u8],
+) -> Decision
+    requires { ⌜ StoreInRange (now store) ⌝ }
+    requires { ⌜ (serial .count ≤ 16) × (model .count ≤ 16) ⌝ }
+    ensures { λ r. ⌜ Decides r (effectOf (identityOf id serial model) (now (store .entry)) (requestOf request bytes)) ⌝ }
+{
     match request {
         Request::Get { page, code } => {
             return get(page, code, store);
@@ -83,7 +115,7 @@ pub fn decide(id: u8, serial: Text, model: Text, asked: ParsedRequest, store: &[
 // A reply that stores nothing and has no bytes beside it.
 fn unchanged(reply: Reply) -> Decision
     requires { ⌜ replyCount reply ≡ 0 ⌝ }
-    ensures { λ r. ⌜ ((bytes : List ℕ) → Decides r (says (replyOf reply bytes))) ⌝ }
+    ensures { λ r. ⌜ Decides r (says (replyOf reply [])) ⌝ }
 {
     let plan = Plan::empty();
     Decision {
@@ -96,7 +128,7 @@ fn unchanged(reply: Reply) -> Decision
 // A reply with what its request stores.
 fn changed(reply: Reply, plan: Plan) -> Decision
     requires { ⌜ replyCount reply ≡ 0 ⌝ }
-    ensures { λ r. ⌜ ((bytes : List ℕ) → Decides r (replies (replyOf reply bytes) (storesOf plan))) ⌝ }
+    ensures { λ r. ⌜ Decides r (replies (replyOf reply []) (storesOf plan)) ⌝ }
 {
     Decision {
         effect: Effect::Replies(reply),
@@ -105,46 +137,62 @@ fn changed(reply: Reply, plan: Plan) -> Decision
     }
 }
 
-// Get: the erase, a setting, or an unlisted pair.
+// Get: the erase, or what is listed.
 fn get(page: u8, code: u8, store: &[u8]) -> Decision
-    requires { ⌜ Ready (now store) ⌝ }
+    requires { ⌜ StoreInRange (now store) ⌝ }
     ensures { λ r. ⌜ Decides r (getEffect (now (store .entry)) page code) ⌝ }
 {
     if is_erase(page, code) {
-        return unchanged(Reply::Got(Outcome::Acknowledged, parameter(page, code, 1, 1, 0)));
+        return unchanged(Reply::Got(Status::Acknowledged, parameter(page, code, 1, 1, 0)));
     }
-    let Found::Setting(setting) = Setting::at(page, code) else {
-        return unchanged(Reply::Got(Outcome::Refused, parameter(page, code, 0, 0, 0)));
+    get_listed(page, code, store)
+}
+
+// Get of a setting, or of a pair that is not listed.
+fn get_listed(page: u8, code: u8, store: &[u8]) -> Decision
+    requires { ⌜ StoreInRange (now store) ⌝ }
+    ensures { λ r. ⌜ Decides r (says (getListed (now (store .entry)) page code (settingAt page code))) ⌝ }
+{
+    let Found::Listed(row) = settings::setting_at(page, code) else {
+        return unchanged(Reply::Got(Status::Refused, parameter(page, code, 0, 0, 0)));
     };
-    let row = setting.row();
-    let value = setting.current(store);
+    let value = row.current(store);
     unchanged(Reply::Got(
-        Outcome::Acknowledged,
+        Status::Acknowledged,
         parameter(page, code, 0, row.largest, value),
     ))
 }
 
-// Set: the erase, a setting, or an unlisted pair.
+// Set: the erase, or what is listed.
 fn set(page: u8, code: u8, value: u16, store: &[u8]) -> Decision
-    requires { ⌜ Ready (now store) ⌝ }
+    requires { ⌜ StoreInRange (now store) ⌝ }
     ensures { λ r. ⌜ Decides r (setEffect (now (store .entry)) page code value) ⌝ }
 {
     if is_erase(page, code) {
         return set_erase(page, code, value);
     }
-    let Found::Setting(setting) = Setting::at(page, code) else {
-        return unchanged(Reply::Set(Outcome::Refused, parameter(page, code, 0, 0, value)));
+    let Found::Listed(row) = settings::setting_at(page, code) else {
+        return unchanged(Reply::Set(Status::Refused, parameter(page, code, 0, 0, value)));
     };
-    let row = setting.row();
+    set_listed(page, code, value, row, store)
+}
+
+// Set of a setting: accepted where the power is on and the value is one of the setting's.
+fn set_listed(page: u8, code: u8, value: u16, row: Row, store: &[u8]) -> Decision
+    requires { ⌜ StoreInRange (now store) ⌝ }
+    requires { ⌜ Listed row ⌝ }
+    ensures { λ r. ⌜ Decides r (setListed (now (store .entry)) page code value (some row)) ⌝ }
+{
+    let values = row.values;
     let shown = parameter(page, code, 0, row.largest, value);
     if !contents::is_on(store) {
-        return unchanged(Reply::Set(Outcome::Refused, shown));
+        return unchanged(Reply::Set(Status::Refused, shown));
     }
-    if !setting.accepts(value) {
-        return unchanged(Reply::Set(Outcome::Refused, shown));
+    if !values.accepts(value) {
+        return unchanged(Reply::Set(Status::Refused, shown));
     }
-    let plan = setting.stores(store, value);
-    changed(Reply::Set(Outcome::Acknowledged, shown), plan)
+    let plan = row.stores(store, value);
+    changed(Reply::Set(Status::Acknowledged, shown), plan)
 }
 
 // Set of the erase: 1 begins it.
@@ -152,7 +200,7 @@ fn set_erase(page: u8, code: u8, value: u16) -> Decision
     ensures { λ r. ⌜ Decides r (cond (eqb value 1) begins (says (setReply 1 page code 1 1 value))) ⌝ }
 {
     if value != 1 {
-        return unchanged(Reply::Set(Outcome::Refused, parameter(page, code, 1, 1, value)));
+        return unchanged(Reply::Set(Status::Refused, parameter(page, code, 1, 1, value)));
     }
     let plan = Plan::empty();
     Decision {
@@ -164,72 +212,72 @@ fn set_erase(page: u8, code: u8, value: u16) -> Decision
 
 // The power status: on, or standby.
 fn power_read(store: &[u8]) -> Decision
-    requires { ⌜ Ready (now store) ⌝ }
+    requires { ⌜ StoreInRange (now store) ⌝ }
     ensures { λ r. ⌜ Decides r (powerReadEffect (now (store .entry))) ⌝ }
 {
     if contents::is_on(store) {
-        return unchanged(Reply::PowerStatus(Outcome::Acknowledged, PowerMode::On));
+        return unchanged(Reply::PowerStatus(Status::Acknowledged, PowerMode::On));
     }
-    unchanged(Reply::PowerStatus(Outcome::Acknowledged, PowerMode::Standby))
+    unchanged(Reply::PowerStatus(Status::Acknowledged, PowerMode::Standby))
 }
 
 // Power control: mode 1 is on, 4 standby.
 fn power_control(mode: u16, store: &[u8]) -> Decision
-    requires { ⌜ Ready (now store) ⌝ }
+    requires { ⌜ StoreInRange (now store) ⌝ }
     ensures { λ r. ⌜ Decides r (powerControlEffect (now (store .entry)) mode) ⌝ }
 {
     if mode == 1 {
         let plan = contents::power_stores(store, 1);
-        return changed(Reply::PowerControl(Outcome::Acknowledged, mode), plan);
+        return changed(Reply::PowerControl(Status::Acknowledged, mode), plan);
     }
     if mode == 4 {
         let plan = contents::power_stores(store, 0);
-        return changed(Reply::PowerControl(Outcome::Acknowledged, mode), plan);
+        return changed(Reply::PowerControl(Status::Acknowledged, mode), plan);
     }
-    unchanged(Reply::PowerControl(Outcome::Refused, mode))
+    unchanged(Reply::PowerControl(Status::Refused, mode))
 }
 
 // A date write.
 fn date_write(date: Date, store: &[u8]) -> Decision
-    requires { ⌜ Ready (now store) ⌝ }
+    requires { ⌜ StoreInRange (now store) ⌝ }
     ensures { λ r. ⌜ Decides r (dateWriteEffect (now (store .entry)) date) ⌝ }
 {
     if !contents::is_accepted(date) {
-        return unchanged(Reply::Date(DateAnswer::Written(Outcome::Refused, date)));
+        return unchanged(Reply::Date(DateAnswer::Written(Status::Refused, date)));
     }
     let plan = contents::date_stores(store, date);
     changed(
-        Reply::Date(DateAnswer::Written(Outcome::Acknowledged, date)),
+        Reply::Date(DateAnswer::Written(Status::Acknowledged, date)),
         plan,
     )
 }
 
 // Serial number, model, tag or former tag.
-fn item_read(id: u8, serial: Text, model: Text, item: Item, store: &[u8]) -> Decision
-    requires { ⌜ Ready (now store) ⌝ }
+fn item_read(id: u8, serial: ItemBytes, model: ItemBytes, item: Item, store: &[u8]) -> Decision
+    requires { ⌜ StoreInRange (now store) ⌝ }
     requires { ⌜ (serial .count ≤ 16) × (model .count ≤ 16) ⌝ }
     ensures { λ r. ⌜ Decides r (says (itemReply item (itemOf (identityOf id serial model) (now (store .entry)) item))) ⌝ }
 {
     match item {
         Item::Serial => {
-            return text_reply(item, serial);
+            return item_reply(item, serial);
         }
         Item::Model => {
-            return text_reply(item, model);
+            return item_reply(item, model);
         }
         Item::Tag => {
-            return text_reply(item, contents::tag_of(store));
+            return item_reply(item, contents::tag_of(store));
         }
         Item::FormerTag => {
-            return text_reply(item, contents::former_tag_of(store));
+            return item_reply(item, contents::former_tag_of(store));
         }
     }
 }
 
 // A reply that carries a text.
-fn text_reply(item: Item, text: Text) -> Decision
+fn item_reply(item: Item, text: ItemBytes) -> Decision
     requires { ⌜ text .count ≤ 16 ⌝ }
-    ensures { λ r. ⌜ Decides r (says (itemReply item (textOf text))) ⌝ }
+    ensures { λ r. ⌜ Decides r (says (itemReply item (itemBytes text))) ⌝ }
 {
     let plan = Plan::empty();
     let bytes = text.bytes;
@@ -240,25 +288,35 @@ fn text_reply(item: Item, text: Text) -> Decision
     }
 }
 
-// A tag write. A count past the array counts the array.
+// A tag write.
 fn tag_write(bytes: [u8; 16], count: u8, store: &[u8]) -> Decision
-    requires { ⌜ Ready (now store) ⌝ }
+    requires { ⌜ StoreInRange (now store) ⌝ }
     ensures { λ r. ⌜ Decides r (replies (tagWriteReply 0 (take count bytes)) (tagStores (now (store .entry)) (take count bytes))) ⌝ }
 {
-    let held = if count < 16 { count } else { 16 };
+    let held = at_most_16(count);
     let n = held as usize;
-    let plan = contents::tag_stores(store, &bytes[..n]);
+    let plan = contents::tag_stores(store, &bytes[0..n]);
     Decision {
-        effect: Effect::Replies(Reply::TagWritten(Outcome::Acknowledged, held)),
+        effect: Effect::Replies(Reply::TagWritten(Status::Acknowledged, held)),
         plan,
         bytes,
     }
 }
 
+// A count past an array of 16 bytes counts the array.
+fn at_most_16(count: u8) -> u8
+    ensures { λ r. ⌜ r ≡ min count 16 ⌝ }
+{
+    if count < 16 {
+        return count;
+    }
+    16
+}
+
 fn is_erase(page: u8, code: u8) -> bool
     ensures { λ r. ⌜ r ≡ isErase page code ⌝ }
 {
-    (page == 0xF0) & (code == 0x01)
+    (page == ERASE_PAGE) & (code == ERASE_CODE)
 }
 
 fn parameter(page: u8, code: u8, operation: u8, largest: u16, value: u16) -> Parameter

@@ -10,22 +10,21 @@ use lib.ListN.{length, getD}
 use borrow.Author.Tests.{eq-eqb, eqb-true}
 use Rattle.plan.specs.Stores.{Entry, entry, applied}
 use Rattle.plan.proofs.Laws.{applied-length}
-use Rattle.wire.specs.Packet.{soh, addressOf, allAddress, textOf, size}
+use Rattle.wire.specs.Packet.{soh, addressOf, allAddress, packetText, size}
 use Rattle.wire.specs.Judge as judge
-use Rattle.wire.proofs.DigitLaws.{cond-by}
+use Rattle.wire.proofs.Tests.{cond-by, both}
 use Rattle.messages.specs.Message.{Reply}
 use Rattle.messages.specs.Read.{requestIn}
 use Rattle.receiver.specs.Receive as receive
 use Rattle.receiver.proofs.Laws.{accept-proper}
 use Rattle.store.specs.Layout.{fieldsInRange, unusedStore}
-use Rattle.store.proofs.StoreLaws.{both}
 use Rattle.store.proofs.UnusedLaws.{unused-length, unused-in-range}
-use Rattle.erase.specs.Board.{Identity, Answer, waiting, silent, begun, refused, reply, Erase, idle, pending, board}
-use Rattle.erase.specs.Calls.{mark, eraseMark, atRest, erasing, isSoundAs, isSound}
-use Rattle.erase.proofs.Laws.{Startable, Settles, Begins, Laws}
+use Rattle.calls.specs.Board.{Identity, Answer, waiting, silent, begun, refused, reply, Erase, idle, pending, board}
+use Rattle.calls.specs.Calls.{mark, eraseMark, atRest, erasing, isSoundAs, isSound}
+use Rattle.calls.proofs.Laws.{Startable, Settles, Begins, Laws}
 use Rattle.actions.specs.Act.{Effect, replies, begins, effect}
 use Rattle.packets.specs.Packets.{BoardState, BoardOutcome, holding, answers, isIdentity, Addressee, own, all, another, addressee, toOwn, toAll, onPacketTo, onPacket}
-use Rattle.board.specs.Calls.{Call, byte, gap, onReceipt, does, owes, isNone, startOther, thisBoard}
+use Rattle.board.specs.BoardKind.{Call, byte, gap, onReceipt, does, owes, isNone, startOther, boardKind}
 use Rattle.packets.proofs.EffectLaws.{Keeps, effect-keeps}
 
 -- ---- a sound board with no erase pending
@@ -37,17 +36,17 @@ pub record Resting (i : Identity) (held m : List ℕ) : Type 0 where
   pub ranged : fieldsInRange m ≡ true
   pub proper : receive.isProperBeginning held ≡ true
 
-pub resting : (s : BoardState) (m : List ℕ) → s .erase ≡ idle → isSound thisBoard s m ≡ true → Resting (s .ident) (s .held) m
+pub resting : (s : BoardState) (m : List ℕ) → s .erase ≡ idle → isSound boardKind s m ≡ true → Resting (s .ident) (s .held) m
 unfolding isSound isSoundAs
 resting s m q h =
-    let x = both (isIdentity (s .ident) && eqb (length m) 128) (isSoundAs thisBoard (s .erase) (s .held) m) h in
+    let x = both (isIdentity (s .ident) && eqb (length m) 128) (isSoundAs boardKind (s .erase) (s .held) m) h in
     let y = both (isIdentity (s .ident)) (eqb (length m) 128) (x .0) in
-    let a : isSoundAs thisBoard idle (s .held) m ≡ true = subst (λ (e : Erase Bool). isSoundAs thisBoard e (s .held) m ≡ true) q (x .1) in
+    let a : isSoundAs boardKind idle (s .held) m ≡ true = subst (λ (e : Erase Bool). isSoundAs boardKind e (s .held) m ≡ true) q (x .1) in
     let z = both (eqb (mark m) (mark unusedStore) && fieldsInRange m) (receive.isProperBeginning (s .held)) a in
     let w = both (eqb (mark m) (mark unusedStore)) (fieldsInRange m) (z .0) in
     record { named = y .0; size = eqb-true _ _ (y .1); marked = eqb-true _ _ (w .0); ranged = w .1; proper = z .1 }
 
-pub resting-sound : {i : Identity} {held m : List ℕ} → Resting i held m → isSound thisBoard (holding i held) m ≡ true
+pub resting-sound : {i : Identity} {held m : List ℕ} → Resting i held m → isSound boardKind (holding i held) m ≡ true
 unfolding isSound isSoundAs
 resting-sound r = simp (r .named, r .ranged, r .proper, eq-eqb _ _ (r .size), eq-eqb _ _ (r .marked))
 
@@ -86,13 +85,13 @@ whole-is held b p =
 
 -- ---- whom a destination addresses
 
-own-told : (i : Identity) (dest : ℕ) → addressee i dest ≡ own → eqb dest (addressOf (i .id)) ≡ true
+own-told : (i : Identity) (dest : ℕ) → addressee (i .id) dest ≡ own → eqb dest (addressOf (i .id)) ≡ true
 unfolding addressee
 own-told i dest =
     cond-by (λ (a : Addressee). a ≡ own → eqb dest (addressOf (i .id)) ≡ true) (eqb dest (addressOf (i .id))) _ _ (λ t _. t)
     (λ t. cond-by (λ (a : Addressee). a ≡ own → eqb dest (addressOf (i .id)) ≡ true) (eqb dest allAddress) _ _ (λ _ e. cc) (λ _ e. cc))
 
-all-told : (i : Identity) (dest : ℕ) → addressee i dest ≡ all → eqb dest (addressOf (i .id)) ≡ false
+all-told : (i : Identity) (dest : ℕ) → addressee (i .id) dest ≡ all → eqb dest (addressOf (i .id)) ≡ false
 unfolding addressee
 all-told i dest = cond-by (λ (a : Addressee). a ≡ all → eqb dest (addressOf (i .id)) ≡ false) (eqb dest (addressOf (i .id))) _ _ (λ _ e. cc) (λ t _. t)
 
@@ -100,7 +99,7 @@ all-told i dest = cond-by (λ (a : Addressee). a ≡ all → eqb dest (addressOf
 
 -- what holds of what a call leaves
 abbrev Acts : Call → BoardState → List ℕ → List ℕ → BoardOutcome → Type 0
-Acts c s m lent o = Settles thisBoard m o ⊎ Begins thisBoard c s lent o
+Acts c s m lent o = Settles boardKind m o ⊎ Begins boardKind c s lent o
 
 module _ (c : Call) (s : BoardState) (m lent : List ℕ) (r : Resting (s .ident) (s .held) m) where
   settles : (a : Answer ℕ) (held : List ℕ) (es : List Entry) (buffer : List ℕ) → a ≢ begun → Resting (s .ident) held (applied es m)
@@ -110,17 +109,17 @@ module _ (c : Call) (s : BoardState) (m lent : List ℕ) (r : Resting (s .ident)
   answer-acts : (a : Answer ℕ) (held : List ℕ) → receive.isProperBeginning held ≡ true → a ≢ begun → Acts c s m lent (answers a (s .ident) held lent)
   answer-acts a held h n = settles a held [] lent n (holds-others held h r)
 
-  effect-rests : (p : List ℕ) {w : Reply} {es : List Entry} → effect (s .ident) m (requestIn (getD p 4 0) (textOf p)) ≡ replies w es
+  effect-rests : (p : List ℕ) {w : Reply} {es : List Entry} → effect (s .ident) m (requestIn (getD p 4 0) (packetText p)) ≡ replies w es
       → Resting (s .ident) [] (applied es m)
-  effect-rests p is = stores-kept (effect-keeps (s .ident) m (getD p 4 0) (textOf p) (r .size) (r .ranged) is) r
+  effect-rests p is = stores-kept (effect-keeps (s .ident) m (getD p 4 0) (packetText p) (r .size) (r .ranged) is) r
 
   begins-acts : (owed : Bool) → owed ≡ owes c s
       → Acts c s m lent (record { answer = begun; state = record { ident = s .ident; held = []; erase = pending 1 owed }; stores = entry 0 eraseMark ∷ []; buffer = lent })
   unfolding erasing
-  begins-acts owed o = inr (record { state-is = ap (λ (owed : Bool). erasing thisBoard (s .ident) 1 owed) o; stores-is = refl; buffer-is = refl })
+  begins-acts owed o = inr (record { state-is = ap (λ (owed : Bool). erasing boardKind (s .ident) 1 owed) o; stores-is = refl; buffer-is = refl })
 
   -- a packet for this board, for all, or for another
-  packet-acts : (p : List ℕ) (to : Addressee) (x : Effect) → effect (s .ident) m (requestIn (getD p 4 0) (textOf p)) ≡ x
+  packet-acts : (p : List ℕ) (to : Addressee) (x : Effect) → effect (s .ident) m (requestIn (getD p 4 0) (packetText p)) ≡ x
       → (to ≡ own → true ≡ owes c s) → (to ≡ all → false ≡ owes c s) → Acts c s m lent (onPacketTo to (s .ident) m p lent)
   unfolding onPacketTo toOwn toAll
   packet-acts p own (replies w es) is f g = rw is (settles (reply _) [] es _ (λ e. let z : _≡_ {A = ℕ} 0 1 = cc in omega arith) (effect-rests p is))
@@ -129,13 +128,13 @@ module _ (c : Call) (s : BoardState) (m lent : List ℕ) (r : Resting (s .ident)
   packet-acts p all begins is f g = rw is (begins-acts false (g refl))
   packet-acts p another x is f g = answer-acts (refused 8) [] nothing-proper (λ e. let z : _≡_ {A = ℕ} 0 1 = cc in omega arith)
 
-  receipt-acts : (held : List ℕ) (a : receive.Answer) → receive.isProperBeginning held ≡ true
+  receipt-acts : (held : List ℕ) (a : receive.Reception) → receive.isProperBeginning held ≡ true
       → ((p : List ℕ) → a ≡ receive.whole p → eqb (getD p 2 0) (addressOf (s .ident .id)) ≡ owes c s) → Acts c s m lent (onReceipt a held (s .ident) m lent)
   unfolding onReceipt onPacket
   receipt-acts held receive.waiting h f = answer-acts waiting held h (λ e. let z : _≡_ {A = ℕ} 0 1 = cc in omega arith)
   receipt-acts held (receive.refused n) h f = answer-acts (refused n) held h (λ e. let z : _≡_ {A = ℕ} 0 1 = cc in omega arith)
   receipt-acts held (receive.whole p) h f =
-      packet-acts p (addressee (s .ident) (getD p 2 0)) _ refl (λ e. sym (own-told _ _ e) ∙ f p refl) (λ e. sym (all-told _ _ e) ∙ f p refl)
+      packet-acts p (addressee (s .ident .id) (getD p 2 0)) _ refl (λ e. sym (own-told (s .ident) (getD p 2 0) e) ∙ f p refl) (λ e. sym (all-told (s .ident) (getD p 2 0) e) ∙ f p refl)
 
 call-acts : (c : Call) (s : BoardState) (m lent : List ℕ) → Resting (s .ident) (s .held) m → Acts c s m lent (does c s m lent)
 unfolding does owes
@@ -144,7 +143,7 @@ call-acts (byte b) s m lent r =
     receipt-acts (byte b) s m lent r _ _ e (λ p w. ap (λ (p : List ℕ). eqb (getD p 2 0) (addressOf (s .ident .id))) (sym (whole-is (s .held) b p w)))
 call-acts gap s m lent r = answer-acts gap s m lent r waiting [] nothing-proper (λ e. let z : _≡_ {A = ℕ} 0 1 = cc in omega arith)
 
-rest-starts : (i : Identity) (m : List ℕ) → Startable thisBoard i m → startOther i m ≡ board (atRest thisBoard i) []
+rest-starts : (i : Identity) (m : List ℕ) → Startable boardKind i m → startOther i m ≡ board (atRest boardKind i) []
 unfolding startOther atRest
 rest-starts i m a = simp (a .named, a .ranged, eq-eqb _ _ (a .size), eq-eqb _ _ (a .marked))
 
@@ -152,7 +151,7 @@ other-mark : mark unusedStore ≢ eraseMark
 unfolding mark unusedStore
 other-mark e = omega arith
 
-pub board-laws : Laws thisBoard
+pub board-laws : Laws boardKind
 board-laws =
     record {
       size = unused-length;

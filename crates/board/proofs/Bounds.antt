@@ -6,20 +6,21 @@ use Prim.Native.Nat.{ℕ, _≤_}
 use native.Mathlib.Omega.{arith}
 use lib.ListN.{length, getD}
 use borrow.Author.Tests.{leb-true}
-use Rattle.plan.specs.Stores.{Entry, Ready}
-use Rattle.wire.specs.Packet.{size, textOf, over}
+use Rattle.plan.specs.Stores.{Entry}
+use Rattle.plan.specs.Inner.{Committable}
+use Rattle.wire.specs.Packet.{size, packetText, over}
 use Rattle.messages.specs.Message.{Reply}
 use Rattle.messages.specs.Message.Reply.{setReply}
 use Rattle.messages.specs.Text.{replyText, parameterText}
 use Rattle.messages.specs.Read.{requestIn}
 use Rattle.receiver.specs.Receive as receive
-use Rattle.erase.specs.Board.{Identity, Answer, waiting, silent, begun, more, ended, refused, reply, pending}
-use Rattle.erase.specs.Calls.{refuse, stepOn, onCall, onStep}
-use Rattle.erase.proofs.Steps.{Called, Stepped, refuses, clears, does, called, stepped, step-clears-or-ends}
+use Rattle.calls.specs.Board.{Identity, Answer, waiting, silent, begun, more, ended, refused, reply}
+use Rattle.calls.specs.Calls.{refuse, onCall, clearStep, endStep, eraseStep, onStep}
+use Rattle.calls.proofs.Steps.{Called, Stepped, refuses, clears, does, called, stepped, step-clears-or-ends}
 use Rattle.actions.specs.Act.{Effect, replies, begins, effect}
 use Rattle.packets.specs.Packets.{BoardState, BoardOutcome, Addressee, own, all, another, addressee, replyFrom, toOwn, toAll, onPacketTo, onPacket}
-use Rattle.board.specs.Calls.{Call, byte, gap, eraseReply, lastAnswer, lastBuffer, onReceipt, thisBoard}
-use Rattle.board.specs.Calls as board
+use Rattle.board.specs.BoardKind.{Call, byte, gap, eraseReply, lastAnswer, lastBuffer, onReceipt, boardKind}
+use Rattle.board.specs.BoardKind as board
 use Rattle.packets.proofs.EffectLaws.{effect-ready}
 use Rattle.board.proofs.BoardLaws.{Resting, resting}
 use Rattle.packets.proofs.ReplyLaws.{Fitting, reply-length, reply-size, effect-fits}
@@ -44,13 +45,13 @@ Sends lent (refused n) buffer = buffer ≡ lent
 
 -- entries that a plan and the store can take; a reply fills the start of the lent buffer, and every other answer leaves it
 pub record Bounded (lent : List ℕ) (o : BoardOutcome) : Type 0 where
-  pub ready : Ready 128 (o .stores)
+  pub ready : Committable 128 (o .stores)
   pub sends : Sends lent (o .answer) (o .buffer)
 
-no-stores : Ready 128 []
+no-stores : Committable 128 []
 no-stores = record { few = omega arith; within = tt }
 
-one-store : (e : Entry) → e .place ≤ 127 → Ready 128 (e ∷ [])
+one-store : (e : Entry) → e .place ≤ 127 → Committable 128 (e ∷ [])
 one-store e h = record { few = omega arith; within = (omega arith, tt) }
 
 reply-sent : (i : Identity) (r : Reply) (lent : List ℕ) → Fitting r → Replied lent (length (replyFrom i r)) (over (replyFrom i r) lent)
@@ -60,39 +61,39 @@ reply-sent i r lent f =
 -- ---- a call
 
 module _ (s : BoardState) (m lent : List ℕ) (r : Resting (s .ident) (s .held) m) where
-  packet-bounded : (p : List ℕ) (to : Addressee) (x : Effect) → effect (s .ident) m (requestIn (getD p 4 0) (textOf p)) ≡ x
+  packet-bounded : (p : List ℕ) (to : Addressee) (x : Effect) → effect (s .ident) m (requestIn (getD p 4 0) (packetText p)) ≡ x
       → Bounded lent (onPacketTo to (s .ident) m p lent)
   unfolding onPacketTo toOwn toAll
   packet-bounded p own (replies w es) is =
       rw is (record {
-        ready = effect-ready (s .ident) m (getD p 4 0) (textOf p) (r .size) (r .ranged) is;
-        sends = reply-sent (s .ident) w lent (effect-fits (s .ident) m (getD p 4 0) (textOf p) (r .named) (r .ranged) is);
+        ready = effect-ready (s .ident) m (getD p 4 0) (packetText p) (r .size) (r .ranged) is;
+        sends = reply-sent (s .ident) w lent (effect-fits (s .ident) m (getD p 4 0) (packetText p) (r .named) (r .ranged) is);
       })
   packet-bounded p own begins is = rw is (record { ready = one-store _ (omega arith); sends = refl })
   packet-bounded p all (replies w es) is =
-      rw is (record { ready = effect-ready (s .ident) m (getD p 4 0) (textOf p) (r .size) (r .ranged) is; sends = refl })
+      rw is (record { ready = effect-ready (s .ident) m (getD p 4 0) (packetText p) (r .size) (r .ranged) is; sends = refl })
   packet-bounded p all begins is = rw is (record { ready = one-store _ (omega arith); sends = refl })
   packet-bounded p another x is = record { ready = no-stores; sends = refl }
 
-  receipt-bounded : (a : receive.Answer) (held : List ℕ) → Bounded lent (onReceipt a held (s .ident) m lent)
+  receipt-bounded : (a : receive.Reception) (held : List ℕ) → Bounded lent (onReceipt a held (s .ident) m lent)
   unfolding onReceipt onPacket
   receipt-bounded receive.waiting held = record { ready = no-stores; sends = refl }
   receipt-bounded (receive.refused n) held = record { ready = no-stores; sends = refl }
-  receipt-bounded (receive.whole p) held = packet-bounded p (addressee (s .ident) (getD p 2 0)) _ refl
+  receipt-bounded (receive.whole p) held = packet-bounded p (addressee (s .ident .id) (getD p 2 0)) _ refl
 
   done-bounded : (c : Call) → Bounded lent (board.does c s m lent)
   unfolding board.does
   done-bounded (byte b) = receipt-bounded _ _
   done-bounded gap = record { ready = no-stores; sends = refl }
 
-refusal-bounded : (n : ℕ) (s : BoardState) (lent : List ℕ) → Bounded lent (refuse thisBoard n s lent)
+refusal-bounded : (n : ℕ) (s : BoardState) (lent : List ℕ) → Bounded lent (refuse boardKind n s lent)
 unfolding refuse
 refusal-bounded n s lent = record { ready = no-stores; sends = refl }
 
-pub call-bounded : (c : Call) (s : BoardState) (m lent : List ℕ) → Bounded lent (onCall thisBoard c s m lent)
-call-bounded c s m lent = go (called thisBoard c s m lent)
+pub call-bounded : (c : Call) (s : BoardState) (m lent : List ℕ) → Bounded lent (onCall boardKind c s m lent)
+call-bounded c s m lent = go (called boardKind c s m lent)
   where
-    go : Called thisBoard c s m lent (onCall thisBoard c s m lent) → Bounded lent (onCall thisBoard c s m lent)
+    go : Called boardKind c s m lent (onCall boardKind c s m lent) → Bounded lent (onCall boardKind c s m lent)
     go (refuses n e) = rw e (refusal-bounded n s lent)
     go (does q h e) = rw e (done-bounded s m lent (resting s m q h) c)
 
@@ -103,15 +104,16 @@ unfolding eraseReply replyText parameterText
 last-sends i true lent = reply-sent i (setReply 0 0xF0 0x01 1 1 1) lent (omega arith)
 last-sends i false lent = refl
 
-clear-bounded : (p : ℕ) (owed : Bool) (s : BoardState) (lent : List ℕ) → Bounded lent (stepOn thisBoard (pending p owed) s lent)
+clear-bounded : (p : ℕ) (owed : Bool) (s : BoardState) (lent : List ℕ) → Bounded lent (eraseStep boardKind p owed s lent)
+unfolding clearStep endStep
 clear-bounded p owed s lent =
-    step-clears-or-ends thisBoard (Bounded lent) p owed s lent
+    step-clears-or-ends boardKind (Bounded lent) p owed s lent
     (λ t. record { ready = one-store _ (leb-true p 127 t); sends = refl })
     (λ t. record { ready = one-store _ (omega arith); sends = last-sends (s .ident) owed lent })
 
-pub step-bounded : (s : BoardState) (m lent : List ℕ) → Bounded lent (onStep thisBoard s m lent)
-step-bounded s m lent = go (stepped thisBoard s m lent)
+pub step-bounded : (s : BoardState) (m lent : List ℕ) → Bounded lent (onStep boardKind s m lent)
+step-bounded s m lent = go (stepped boardKind s m lent)
   where
-    go : Stepped thisBoard s m lent (onStep thisBoard s m lent) → Bounded lent (onStep thisBoard s m lent)
+    go : Stepped boardKind s m lent (onStep boardKind s m lent) → Bounded lent (onStep boardKind s m lent)
     go (refuses n e) = rw e (refusal-bounded n s lent)
     go (clears p owed q h e) = rw e (clear-bounded p owed s lent)

@@ -1,58 +1,68 @@
--- Each way through a call: under the tests that the code makes on the way, what document 01's chain of checks comes to.
-use mathlib.Core.Path.{_≡_, ap, sym, _∙_}
-use mathlib.Core.Bool.{Bool, true, false, cond, not, _&&_, and-assoc}
+-- Each way through a call: under the tests that the code makes on the way, what the chain of checks in the definition comes to.
+use types.Run.{OneOf, miss}
+use denote.Enum.Declared.{tagOf}
+use mathlib.Core.Path.{_≡_, refl, ap, sym, _∙_, subst}
+use mathlib.Core.Bool.{Bool, true, false, cond, not, _&&_, and-assoc, false≢true}
 use mathlib.Core.List.{List, [], _∷_, _++_}
 use Prim.Native.Nat.{ℕ, min, _+_, _≤_, _<_}
 use native.Mathlib.Numerals.{add-one}
 use native.Mathlib.Omega.{arith}
 use lib.Dec.{ltb, leb, eqb}
 use lib.ListN.{length, getD, set, take, length-take, length-append}
-use borrow.Author.Tests.{eq-eqb, ne-eqb, lt-ltb, le-ltb, le-leb, lt-leb, leb-true, leb-false, eqb-true, eqb-false, ltb-false, not-true, not-false}
+use borrow.Author.Tests.{le-leb, lt-leb, leb-true, leb-false, eqb-true, eqb-false, ltb-false, not-true, not-false}
 use Rattle.wire.specs.Refusal.{numberOf}
 use Rattle.wire.specs.declared.refusal.Refusal.{Refusal}
-use Rattle.wire.specs.Packet.{soh, size}
+use Rattle.wire.specs.Packet.{soh, size, leastBuffer}
+use Rattle.wire.specs.Inner.{Whole}
 use Rattle.wire.specs.Judge as judge
-use Rattle.wire.proofs.DigitLaws.{cond-by}
+use Rattle.wire.proofs.Tests.{cond-by, both}
 use Rattle.store.specs.Layout.{fieldsInRange, unusedStore}
-use Rattle.store.specs.declared.contents.Text.{Text}
-use Rattle.store.proofs.StoreLaws.{both}
+use Rattle.store.specs.declared.contents.ItemBytes.{ItemBytes}
 use Rattle.receiver.specs.Receive as receive
-use Rattle.receiver.specs.View.{stepped}
+use Rattle.receiver.specs.Inner.{progressReceipt}
 use Rattle.receiver.specs.declared.Progress.{Progress}
 use Rattle.receiver.proofs.Laws.{one-more}
-use Rattle.erase.specs.Board as erase
-use Rattle.erase.specs.Board.{Identity, pending, idle}
-use Rattle.erase.specs.Calls.{mark, eraseMark, firstBytes, same, isShort, refuse, atRest, erasing, isSoundAs, isSound, callOn, onCall, stepOn, onStep, onStart}
-use Rattle.actions.specs.View.{seenText, identityOf}
-use Rattle.board.specs.Calls as calls
+use Rattle.calls.specs.Board as calls
+use Rattle.calls.specs.Board.{Identity, pending, idle, isPending, placeOf, owedOf}
+use Rattle.calls.specs.Calls.{mark, eraseMark, isShort, refuse, atRest, erasing, isSoundAs, isSound, entryCheckOf, callOn, onCall, clearStep, endStep, eraseStep, stepOn, onStep, onStart}
+use Rattle.calls.specs.View.{entryCheckAs}
+use Rattle.calls.specs.Inner.{refusalAt}
+use Rattle.calls.specs.declared.EntryCheck.{EntryCheck}
+use Rattle.calls.proofs.EntryCheck.{the-type}
+use Rattle.calls.proofs.Steps.{Passed, idle-passed, pending-passed}
+use Rattle.actions.specs.View.{identityBytes, identityOf}
+use Rattle.board.specs.BoardKind as kind
 use Rattle.packets.specs.Packets.{holding, onPacket, BoardState, BoardOutcome, isIdentity}
-use Rattle.board.specs.Calls.{Call, byte, gap, lends, startOther, thisBoard}
-use Rattle.packets.specs.View.{Result, result, acted}
-use Rattle.board.specs.View.{eraseOf, stateOf, answerOf, gave, started, Refusing, noBoard, identityFits, freshState, soundWith, leftState, Accepting, Acting}
+use Rattle.board.specs.BoardKind.{Call, byte, gap, lends, startOther, boardKind}
+use Rattle.packets.specs.View.{Result, result}
+use Rattle.packets.specs.Inner.{answerAfter, eraseAfter, acted}
+use Rattle.board.specs.View.{eraseOf, stateOf, answerOf, gave, givenIdentity, startedOf, Refusing, noBoard}
+use Rattle.board.specs.Inner.{identityFits, startState, startStateAs, freshState, soundWith, leftState, Accepting, Acting, Erasing}
 use Rattle.packets.specs.declared.Acted.{Acted}
 use Rattle.board.specs.declared.board.Erase.{Erase}
 use Rattle.board.specs.declared.board.Board.{Board}
 use Rattle.board.specs.declared.board.Answer.{Answer}
 use Rattle.board.specs.declared.board.Done.{Done}
 use Rattle.board.specs.declared.board.Started.{Started}
-use Rattle.board.specs.declared.board.Verdict.{Verdict}
+use Rattle.board.specs.declared.board.StartAnswer.{StartAnswer}
+use Rattle.board.specs.declared.board.StartState.{StartState}
 use Rattle.packets.proofs.IdentityLaws.{named-told}
 use Rattle.board.proofs.BoardLaws.{Resting, resting, whole-is}
 
 -- ---- soundness by the counts of the texts
 
 -- a text is seen as at most 17 bytes, so it is short where its count is
-module _ (t : Text) (all : length (t .bytes) ≡ 16) where
-  seen-length : length (seenText t) ≡ min (t .count) 17
+module _ (t : ItemBytes) (all : length (t .bytes) ≡ 16) where
+  seen-length : length (identityBytes t) ≡ min (t .count) 17
   seen-length = simp (length-take, length-append, all)
 
-  pub text-few : leb (length (seenText t)) 16 ≡ leb (t .count) 16
+  pub text-few : leb (length (identityBytes t)) 16 ≡ leb (t .count) 16
   text-few =
-      cond-by (λ (_ : ℕ). leb (length (seenText t)) 16 ≡ leb (t .count) 16) (leb (t .count) 16) 0 0
-      (λ h. rw h (le-leb (length (seenText t)) 16 (omega (arith, seen-length, leb-true (t .count) 16 h))))
-      (λ h. rw h (lt-leb (length (seenText t)) 16 (omega (arith, seen-length, leb-false (t .count) 16 h))))
+      cond-by (λ (_ : ℕ). leb (length (identityBytes t)) 16 ≡ leb (t .count) 16) (leb (t .count) 16) 0 0
+      (λ h. rw h (le-leb (length (identityBytes t)) 16 (omega (arith, seen-length, leb-true (t .count) 16 h))))
+      (λ h. rw h (lt-leb (length (identityBytes t)) 16 (omega (arith, seen-length, leb-false (t .count) 16 h))))
 
-  pub count-few : length (seenText t) ≤ 16 → t .count ≤ 16
+  pub count-few : length (identityBytes t) ≤ 16 → t .count ≤ 16
   count-few h = omega (arith, seen-length)
 
 module _ (b : Board) (m : List ℕ) (serial : length (b .serial .bytes) ≡ 16) (model : length (b .model .bytes) ≡ 16) where
@@ -60,141 +70,221 @@ module _ (b : Board) (m : List ℕ) (serial : length (b .serial .bytes) ≡ 16) 
   unfolding isIdentity
   identity-fits = rw (text-few (b .serial) serial, text-few (b .model) model)
 
-  sound-by : isSound thisBoard (stateOf b) m ≡ (identityFits (b .id) (b .serial .count) (b .model .count) && soundWith (take (b .len) (b .held)) (b .erase) m)
+  sound-by : isSound boardKind (stateOf b) m ≡ (identityFits (b .id) (b .serial .count) (b .model .count) && soundWith (take (b .len) (b .held)) (b .erase) m)
   unfolding isSound
-  sound-by = rw identity-fits (and-assoc (identityFits (b .id) (b .serial .count) (b .model .count)) (eqb (length m) 128) (isSoundAs thisBoard (eraseOf (b .erase)) (take (b .len) (b .held)) m))
+  sound-by = rw identity-fits (and-assoc (identityFits (b .id) (b .serial .count) (b .model .count)) (eqb (length m) 128) (isSoundAs boardKind (eraseOf (b .erase)) (take (b .len) (b .held)) m))
 
   module _ (n : Bool) (told : n ≡ identityFits (b .id) (b .serial .count) (b .model .count)) where
-    pub unnamed-unsound : not n ≡ true → false ≡ isSound thisBoard (stateOf b) m
+    pub unnamed-unsound : not n ≡ true → false ≡ isSound boardKind (stateOf b) m
     unnamed-unsound e = rw (sound-by, ← told, not-true n e)
 
-    pub named-sound : (r : Bool) → not n ≡ false → r ≡ soundWith (take (b .len) (b .held)) (b .erase) m → r ≡ isSound thisBoard (stateOf b) m
+    pub named-sound : (r : Bool) → not n ≡ false → r ≡ soundWith (take (b .len) (b .held)) (b .erase) m → r ≡ isSound boardKind (stateOf b) m
     named-sound r e k = rw (sound-by, ← told, not-false n e, k)
 
--- ---- a refusal that changes nothing
+-- ---- the entry check
 
-module _ (d : Done) (b : Board) (r : Refusal) (m lent : List ℕ) (left : (d .board ≡ b) × (d .answer ≡ Answer.Refused r)) where
-  pub refused-whole : (o : BoardOutcome) → o ≡ refuse thisBoard (numberOf r) (stateOf b) lent → gave d m lent ≡ result o m
+-- the code's answer is the definition's
+abbrev pub Entered : EntryCheck → (short : Bool) → BoardState → List ℕ → Type 0
+Entered e short s m = entryCheckAs e ≡ entryCheckOf boardKind short s m
+
+-- a refusal that changes nothing
+abbrev pub RefusedAs : Done → Board → Refusal → Type 0
+RefusedAs d b r = (d .board ≡ b) × (d .answer ≡ Answer.Refused r)
+
+module _ (d : Done) (b : Board) (r : Refusal) (m lent : List ℕ) (left : RefusedAs d b r) where
+  refused-whole : (o : BoardOutcome) → o ≡ refuse boardKind (numberOf r) (stateOf b) lent → gave d m lent ≡ result o m
   unfolding refuse
   refused-whole o e = rw (e, left .0, left .1)
 
-pub same-whole : (g : Result) (o p : BoardOutcome) (m : List ℕ) → g ≡ result p m → o ≡ p → g ≡ result o m
-same-whole g o p m h e = rw e h
+-- an entry that stops a call, and one that stops a step: the places of all answers of the check but one
+abbrev notIdle : List ℕ
+notIdle = 0 ∷ 1 ∷ 3 ∷ []
 
--- ---- a call in its order: the buffer, soundness, the erase
+abbrev notPending : List ℕ
+notPending = 0 ∷ 1 ∷ 2 ∷ []
 
--- no buffer is lent, or one of 64 bytes
-abbrev pub Ample : Call → List ℕ → Type 0
-Ample c lent = (lends c && isShort lent) ≡ false
+call-stopped : (c : Call) (s : BoardState) (m lent : List ℕ) (e : EntryCheck) → OneOf notIdle (tagOf the-type e)
+    → callOn boardKind (entryCheckAs e) c s m lent ≡ refuse boardKind (refusalAt (entryCheckAs e) 9) s lent
+unfolding callOn
+call-stopped c s m lent EntryCheck.ShortBuffer k = refl
+call-stopped c s m lent EntryCheck.Unsound k = refl
+call-stopped c s m lent EntryCheck.Idle k = absurd (miss notIdle 2 tt k)
+call-stopped c s m lent EntryCheck.Pending k = refl
 
-pub long-enough : (lent : List ℕ) → 64 ≤ length lent → isShort lent ≡ false
-unfolding isShort
-long-enough lent h = le-ltb (length lent) 64 h
+step-stopped : (s : BoardState) (lent : List ℕ) (e : EntryCheck) → OneOf notPending (tagOf the-type e)
+    → stepOn boardKind (entryCheckAs e) s lent ≡ refuse boardKind (refusalAt (entryCheckAs e) 13) s lent
+unfolding stepOn
+step-stopped s lent EntryCheck.ShortBuffer k = refl
+step-stopped s lent EntryCheck.Unsound k = refl
+step-stopped s lent EntryCheck.Idle k = refl
+step-stopped s lent EntryCheck.Pending k = absurd (miss notPending 3 tt k)
 
-pub too-short : (lent : List ℕ) → length lent < 64 → isShort lent ≡ true
-unfolding isShort
-too-short lent h = lt-ltb (length lent) 64 h
-
-module _ (s : BoardState) (m lent : List ℕ) where
-  pub byte-short : (x : ℕ) → length lent < 64 → onCall thisBoard (byte x) s m lent ≡ refuse thisBoard 10 s lent
+-- a call, by what its entry check answered
+module _ (c : Call) (b : Board) (m lent : List ℕ) (entry : EntryCheck) (short : Bool) (told : Entered entry short (stateOf b) m)
+    (lent-short : short ≡ (lends c && isShort lent)) where
+  call-entered : onCall boardKind c (stateOf b) m lent ≡ callOn boardKind (entryCheckAs entry) c (stateOf b) m lent
   unfolding onCall
-  byte-short x h = rw (too-short lent h)
+  call-entered = rw (told, lent-short)
 
-  pub step-short : length lent < 64 → onStep thisBoard s m lent ≡ refuse thisBoard 10 s lent
+  pub call-refused-whole : (d : Done) (r : Refusal) → RefusedAs d b r → numberOf r ≡ refusalAt (entryCheckAs entry) 9 → OneOf notIdle (tagOf the-type entry)
+      → gave d m lent ≡ result (onCall boardKind c (stateOf b) m lent) m
+  call-refused-whole d r left n k =
+      refused-whole d b r m lent left _ (call-entered ∙ call-stopped c (stateOf b) m lent entry k ∙ rw n)
+
+  pub call-done-whole : (g : Result) → entry ≡ EntryCheck.Idle → g ≡ result (kind.does c (stateOf b) m lent) m
+      → g ≡ result (onCall boardKind c (stateOf b) m lent) m
+  unfolding callOn
+  call-done-whole g e h =
+      let q : onCall boardKind c (stateOf b) m lent ≡ kind.does c (stateOf b) m lent = call-entered ∙ rw e in
+      rw q h
+
+-- a step, by what its entry check answered
+module _ (b : Board) (m lent : List ℕ) (entry : EntryCheck) (told : Entered entry (isShort lent) (stateOf b) m) where
+  step-entered : onStep boardKind (stateOf b) m lent ≡ stepOn boardKind (entryCheckAs entry) (stateOf b) lent
   unfolding onStep
-  step-short h = rw (too-short lent h)
+  step-entered = rw told
 
-  module _ (r : Bool) (told : r ≡ isSound thisBoard s m) where
-    pub call-unsound : (c : Call) → Ample c lent → not r ≡ true → onCall thisBoard c s m lent ≡ refuse thisBoard 12 s lent
-    unfolding onCall
-    call-unsound c a e = rw (a, ← told, not-true r e)
+  pub step-refused-whole : (d : Done) (r : Refusal) → RefusedAs d b r → numberOf r ≡ refusalAt (entryCheckAs entry) 13 → OneOf notPending (tagOf the-type entry)
+      → gave d m lent ≡ result (onStep boardKind (stateOf b) m lent) m
+  step-refused-whole d r left n k =
+      refused-whole d b r m lent left _ (step-entered ∙ step-stopped (stateOf b) lent entry k ∙ rw n)
 
-    pub call-sound : (c : Call) → Ample c lent → not r ≡ false → (x : erase.Erase Bool) → s .erase ≡ x
-        → onCall thisBoard c s m lent ≡ callOn thisBoard x c s m lent
-    unfolding onCall
-    call-sound c a e x q = rw (a, ← told, not-false r e) (ap (λ (x : erase.Erase Bool). callOn thisBoard x c s m lent) q)
+  pub step-erased-whole : (g : Result) → entry ≡ EntryCheck.Pending
+      → g ≡ result (eraseStep boardKind (placeOf (eraseOf (b .erase))) (owedOf false (eraseOf (b .erase))) (stateOf b) lent) m
+      → g ≡ result (onStep boardKind (stateOf b) m lent) m
+  unfolding stepOn
+  step-erased-whole g e h =
+      let q : onStep boardKind (stateOf b) m lent
+      ≡ eraseStep boardKind (placeOf (eraseOf (b .erase))) (owedOf false (eraseOf (b .erase))) (stateOf b) lent = step-entered ∙ rw e in
+      rw q h
 
-    pub step-unsound : 64 ≤ length lent → not r ≡ true → onStep thisBoard s m lent ≡ refuse thisBoard 12 s lent
-    unfolding onStep
-    step-unsound h e = rw (long-enough lent h, ← told, not-true r e)
+-- what the calls behind the entry check ask
 
-    pub step-sound : 64 ≤ length lent → not r ≡ false → (x : erase.Erase Bool) → s .erase ≡ x → onStep thisBoard s m lent ≡ stepOn thisBoard x s lent
-    unfolding onStep
-    step-sound h e x q = rw (long-enough lent h, ← told, not-false r e) (ap (λ (x : erase.Erase Bool). stepOn thisBoard x s lent) q)
+idle-is : (e : Erase) → isPending (eraseOf e) ≡ false → e ≡ Erase.Idle
+idle-is Erase.Idle h = refl
+idle-is (Erase.Pending p owed) h = absurd (false≢true (sym h))
 
--- what a sound board with an erase pending is
-pub record Erasing (i : Identity) (p : ℕ) (m : List ℕ) : Type 0 where
-  pub known : i .id ≤ 8
-  pub size : length m ≡ 128
-  pub least : 1 ≤ p
-  pub most : p ≤ 128
+module _ (b : Board) (m : List ℕ) (entry : EntryCheck) (short : Bool) (told : Entered entry short (stateOf b) m) where
+  idle-behind : entry ≡ EntryCheck.Idle → Passed short (isSound boardKind (stateOf b) m) (isPending (eraseOf (b .erase))) false
+  unfolding entryCheckOf
+  idle-behind e = idle-passed short _ _ (sym told ∙ rw e)
 
-pub erasing-told : (s : BoardState) (m : List ℕ) (p : ℕ) (owed : Bool) → s .erase ≡ pending p owed → isSound thisBoard s m ≡ true → Erasing (s .ident) p m
-unfolding isSound isSoundAs
-erasing-told s m p owed q h =
-    let x = both (isIdentity (s .ident) && eqb (length m) 128) (isSoundAs thisBoard (s .erase) (s .held) m) h in
-    let y = both (isIdentity (s .ident)) (eqb (length m) 128) (x .0) in
-    let a : isSoundAs thisBoard (pending p owed) (s .held) m ≡ true = ap (λ (e : erase.Erase Bool). isSoundAs thisBoard e (s .held) m) (sym q) ∙ x .1 in
-    let none : Bool = eqb (mark m) eraseMark && calls.isNone (s .held) in
-    let z = both (none && leb 1 p && leb p 128) (same (firstBytes p m) (firstBytes p unusedStore)) a in
-    let w = both (none && leb 1 p) (leb p 128) (z .0) in
-    let v = both none (leb 1 p) (w .0) in
-    record { known = named-told (s .ident) (y .0) .most; size = eqb-true _ _ (y .1); least = leb-true 1 p (v .1); most = leb-true p 128 (w .1) }
+  pending-behind : entry ≡ EntryCheck.Pending → Passed short (isSound boardKind (stateOf b) m) (isPending (eraseOf (b .erase))) true
+  unfolding entryCheckOf
+  pending-behind e = pending-passed short _ _ (sym told ∙ rw e)
+
+  idle-erase : entry ≡ EntryCheck.Idle → b .erase ≡ Erase.Idle
+  idle-erase e = idle-is (b .erase) (idle-behind e .phase)
+
+module _ (b : Board) (m lent : List ℕ) (entry : EntryCheck) (told : Entered entry (ltb (length lent) leastBuffer) (stateOf b) m) where
+  pub accepting : entry ≡ EntryCheck.Idle → Accepting b m lent
+  accepting e =
+      let p = idle-behind b m entry _ told e in
+      record { sound = p .is-sound; idle = idle-erase b m entry _ told e; room = ltb-false (length lent) leastBuffer (p .long) }
+
+  pub erasing-behind : entry ≡ EntryCheck.Pending → Erasing b m lent
+  unfolding isSound
+  erasing-behind e =
+      let p = pending-behind b m entry _ told e in
+      let s = stateOf b in
+      let x = both (isIdentity (s .ident) && eqb (length m) 128) (isSoundAs boardKind (s .erase) (s .held) m) (p .is-sound) in
+      let y = both (isIdentity (s .ident)) (eqb (length m) 128) (x .0) in
+      record { known = named-told (s .ident) (y .0) .most; size = eqb-true _ _ (y .1); room = ltb-false (length lent) leastBuffer (p .long) }
 
 -- ---- an erase step
 
-module _ (d : Done) (b : Board) (p : ℕ) (owed : Bool) (m m' lent : List ℕ) where
-  pub clears-whole : (o : BoardOutcome) → o ≡ stepOn thisBoard (pending p owed) (stateOf b) lent → p ≤ 127
+module _ (d : Done) (b : Board) (p : ℕ) (owed : Bool) (m m' lent : List ℕ) (place : p ≡ placeOf (eraseOf (b .erase)))
+    (owes : owed ≡ owedOf false (eraseOf (b .erase))) where
+  pub clears-whole : p ≤ 127
       → (d .answer ≡ Answer.More) × (stateOf (d .board) ≡ leftState b (Erase.Pending (p + 1) owed)) × (m' ≡ set m p (getD unusedStore p 0))
-      → gave d m' lent ≡ result o m
-  unfolding stepOn erasing
-  clears-whole o e h left = rw (e, le-leb p 127 h, left .0, left .1, left .2, add-one)
+      → gave d m' lent ≡ result (eraseStep boardKind (placeOf (eraseOf (b .erase))) (owedOf false (eraseOf (b .erase))) (stateOf b) lent) m
+  unfolding eraseStep clearStep erasing
+  clears-whole h left = rw (← place, ← owes, le-leb p 127 h, left .0, left .1, left .2, add-one)
 
-  pub ends-whole : (o : BoardOutcome) → o ≡ stepOn thisBoard (pending p owed) (stateOf b) lent → 127 < p → (lent' : List ℕ)
-      → (answerOf (d .answer) ≡ calls.lastAnswer (stateOf b .ident) owed) × (stateOf (d .board) ≡ leftState b Erase.Idle) × (m' ≡ set m 0 0)
-      × (lent' ≡ calls.lastBuffer (stateOf b .ident) owed lent)
-      → gave d m' lent' ≡ result o m
-  unfolding stepOn atRest mark unusedStore
-  ends-whole o e h lent' left = rw (e, lt-leb p 127 h, left .0, left .1, left .2, left .3)
+  pub ends-whole : 127 < p → (lent' : List ℕ)
+      → (answerOf (d .answer) ≡ kind.lastAnswer (stateOf b .ident) owed) × (stateOf (d .board) ≡ leftState b Erase.Idle) × (m' ≡ set m 0 0)
+      × (lent' ≡ kind.lastBuffer (stateOf b .ident) owed lent)
+      → gave d m' lent' ≡ result (eraseStep boardKind (placeOf (eraseOf (b .erase))) (owedOf false (eraseOf (b .erase))) (stateOf b) lent) m
+  unfolding eraseStep endStep atRest mark unusedStore
+  ends-whole h lent' left = rw (← place, ← owes, lt-leb p 127 h, left .0, left .1, left .2, left .3)
 
 -- ---- a start
 
-module _ (r : Started) (i : Identity) (m m' : List ℕ) (same : m' ≡ m) where
-  pub refused-start : (x : Refusal) → (r .verdict ≡ Verdict.Refused x) × (r .board ≡ noBoard) → onStart thisBoard i m ≡ erase.noBoard (numberOf x)
-      → (started r ≡ onStart thisBoard i m) × Refusing r × (m' ≡ m)
-  refused-start x left e = (rw (e, left .0), rw (left .0) (left .1), same)
+-- a board with an identity and nothing held, where a start gives one
+abbrev startedAs : Identity → calls.Started (calls.Erase Bool) → calls.Started BoardState
+startedAs i (calls.board e es) = calls.board (record { ident = i; held = []; erase = e }) es
+startedAs i (calls.startRefused n) = calls.startRefused n
 
-  pub fresh-start : (e : Erase) → (r .verdict ≡ Verdict.Ready) × (stateOf (r .board) ≡ freshState (i .id) (i .serial) (i .model) e)
-      → onStart thisBoard i m ≡ erase.board (freshState (i .id) (i .serial) (i .model) e) [] → (started r ≡ onStart thisBoard i m) × Refusing r × (m' ≡ m)
-  fresh-start e left o = (rw (o, left .0, left .1), rw (left .0) tt, same)
+start-told : (i : Identity) (m : List ℕ) → onStart boardKind i m ≡ startedAs i (startState m (isIdentity i))
+unfolding onStart startOther erasing
+start-told i m = go (eqb (length m) 128 && eqb (mark m) eraseMark) (eqb (length m) 128 && eqb (mark m) (mark unusedStore)) (isIdentity i) (fieldsInRange m)
+  where
+    go : (erase unused named ranged : Bool)
+        → cond erase (cond named (calls.board (record { ident = i; held = []; erase = pending 1 false }) []) (calls.startRefused 12))
+        (cond unused (cond (named && ranged) (calls.board (holding i []) []) (calls.startRefused 12)) (calls.startRefused 11))
+        ≡ startedAs i
+        (cond erase (cond named (calls.board (pending 1 false) []) (calls.startRefused 12))
+        (cond unused (cond (named && ranged) (calls.board idle []) (calls.startRefused 12)) (calls.startRefused 11)))
+    go true unused true ranged = refl
+    go true unused false ranged = refl
+    go false true true true = refl
+    go false true true false = refl
+    go false true false ranged = refl
+    go false false named ranged = refl
 
-module _ (i : Identity) (m : List ℕ) where
-  pub start-size : (length m ≡ 128 → ⊥) → onStart thisBoard i m ≡ erase.noBoard 11
-  unfolding onStart startOther
-  start-size f = rw (ne-eqb (length m) 128 f)
+abbrev Named : Bool → calls.Started (calls.Erase Bool) → Type 0
+Named n (calls.board e es) = n ≡ true
+Named n (calls.startRefused k) = Unit {0}
 
-  module _ (all : length m ≡ 128) where
-    pub start-marked : getD m 0 0 ≡ eraseMark → onStart thisBoard i m ≡ cond (isIdentity i) (erase.board (erasing thisBoard i 1 false) []) (erase.noBoard 12)
-    unfolding onStart mark
-    start-marked e = rw (eq-eqb (length m) 128 all, eq-eqb (getD m 0 0) eraseMark e)
+ready-named : (m : List ℕ) (n : Bool) → Named n (startState m n)
+ready-named m true =
+    cond-by (Named true) (eqb (length m) 128 && eqb (mark m) eraseMark) _ _ (λ _. refl)
+    (λ _. cond-by (Named true) (eqb (length m) 128 && eqb (mark m) (mark unusedStore)) _ _
+    (λ _. cond-by (Named true) (fieldsInRange m) _ _ (λ _. refl) (λ _. tt)) (λ _. tt))
+ready-named m false =
+    cond-by (Named false) (eqb (length m) 128 && eqb (mark m) eraseMark) _ _ (λ _. tt)
+    (λ _. cond-by (Named false) (eqb (length m) 128 && eqb (mark m) (mark unusedStore)) _ _ (λ _. tt) (λ _. tt))
 
-    pub start-other : (getD m 0 0 ≡ eraseMark → ⊥) → (getD m 0 0 ≡ 0 → ⊥) → onStart thisBoard i m ≡ erase.noBoard 11
-    unfolding onStart startOther mark unusedStore
-    start-other f g = rw (eq-eqb (length m) 128 all, ne-eqb (getD m 0 0) eraseMark f, ne-eqb (getD m 0 0) 0 g)
+module _ (id : ℕ) (serial model m : List ℕ) (s : StartState) (n : Bool) (named : n ≡ identityFits id (length serial) (length model))
+    (told : startStateAs s ≡ startState m n) where
+  same-named : n ≡ isIdentity (givenIdentity id serial model)
+  unfolding isIdentity
+  same-named = named
 
-    pub start-unused : getD m 0 0 ≡ 0
-        → onStart thisBoard i m ≡ cond (isIdentity i && fieldsInRange m) (erase.board (holding i []) []) (erase.noBoard 12)
-    unfolding onStart startOther mark unusedStore
-    start-unused e = rw (eq-eqb (length m) 128 all, e)
+  start-named : (e : Erase) → s ≡ StartState.Ready e → isIdentity (givenIdentity id serial model) ≡ true
+  start-named e q = sym same-named ∙ subst (Named n) (sym told ∙ ap startStateAs q) (ready-named m n)
+
+  pub serial-few : (e : Erase) → s ≡ StartState.Ready e → length serial ≤ 16
+  serial-few e q = named-told (givenIdentity id serial model) (start-named e q) .serial
+
+  pub model-few : (e : Erase) → s ≡ StartState.Ready e → length model ≤ 16
+  model-few e q = named-told (givenIdentity id serial model) (start-named e q) .model
+
+  start-is : onStart boardKind (givenIdentity id serial model) m ≡ startedAs (givenIdentity id serial model) (startStateAs s)
+  start-is = start-told (givenIdentity id serial model) m ∙ rw (← same-named, told)
+
+  pub refused-start : (r : Started) (x : Refusal) → r .answer ≡ StartAnswer.Refused x → s ≡ StartState.Refused x
+      → startedOf r ≡ onStart boardKind (givenIdentity id serial model) m
+  refused-start r x left q = rw (start-is, q, left)
+
+  pub fresh-start : (r : Started) (e : Erase) → r .answer ≡ StartAnswer.Ready → stateOf (r .board) ≡ freshState id serial model e
+      → s ≡ StartState.Ready e → startedOf r ≡ onStart boardKind (givenIdentity id serial model) m
+  fresh-start r e left state q = rw (start-is, q, left, state)
+
+pub refused-board : (r : Started) (x : Refusal) → r .answer ≡ StartAnswer.Refused x → r .board ≡ noBoard → Refusing r
+refused-board r x left b = rw left b
+
+pub fresh-board : (r : Started) → r .answer ≡ StartAnswer.Ready → Refusing r
+fresh-board r left = rw left tt
 
 -- ---- a gap
 
-pub gap-whole : (b : Board) (m : List ℕ) → b .erase ≡ Erase.Idle → (o : BoardOutcome) → o ≡ callOn thisBoard idle gap (stateOf b) m []
+pub gap-whole : (b : Board) (m : List ℕ) (entry : EntryCheck) → Entered entry false (stateOf b) m → entry ≡ EntryCheck.Idle
     → gave
     (record { board = record { id = b .id; serial = b .serial; model = b .model; held = b .held; len = 0; erase = b .erase }; answer = Answer.Waiting }) m []
-    ≡ result o m
-unfolding callOn calls.does
-gap-whole b m e o q = rw (q, e)
+    ≡ result (onCall boardKind gap (stateOf b) m []) m
+unfolding kind.does
+gap-whole b m entry told e = call-done-whole gap b m [] entry false told refl _ e (rw (idle-erase b m entry false told e))
 
 -- ---- a byte
 
@@ -222,34 +312,37 @@ whole-filled held x p =
     judged judge.good r f e = f e
     judged (judge.refused n) r f e = refuses e
 
-pub whole-told : (held : List ℕ) (x : ℕ) (p : List ℕ) → receive.isProperBeginning held ≡ true → receive.accept held x .answer ≡ receive.whole p → judge.Whole p
+pub whole-told : (held : List ℕ) (x : ℕ) (p : List ℕ) → receive.isProperBeginning held ≡ true → receive.accept held x .answer ≡ receive.whole p → Whole p
 whole-told held x p h e =
     let f = whole-filled held x p e in
     let g = one-more held x h in
-    let w : judge.Whole (held ++ (x ∷ [])) = record { least = omega (arith, g .least (f .0), f .1); sized = omega (arith, g .most (f .0), f .1) } in
+    let w : Whole (held ++ (x ∷ [])) = record { least = omega (arith, g .least (f .0), f .1); sized = omega (arith, g .most (f .0), f .1) } in
     rw (whole-is held x p e) at w
 
 module _ (b : Board) (m lent : List ℕ) (a : Accepting b m lent) where
-  pub rests : Resting (stateOf b .ident) (stateOf b .held) m
+  rests : Resting (stateOf b .ident) (stateOf b .held) m
   rests = resting (stateOf b) m (ap eraseOf (a .idle)) (a .sound)
 
-  module _ (x : ℕ) (r : Progress) (held : List ℕ) (told : stepped r (take (b .len + 1) held) ≡ receive.accept (take (b .len) (b .held)) x) where
+  pub held-proper : receive.isProperBeginning (take (b .len) (b .held)) ≡ true
+  held-proper = rests .proper
+
+  module _ (x : ℕ) (r : Progress) (held : List ℕ) (told : progressReceipt r (take (b .len + 1) held) ≡ receive.accept (take (b .len) (b .held)) x) where
     pub waits-whole : r ≡ Progress.Waiting
         → gave (record { board = record { id = b .id; serial = b .serial; model = b .model; held = held; len = b .len + 1; erase = b .erase }; answer = Answer.Waiting }) m lent
-        ≡ result (calls.does (byte x) (stateOf b) m lent) m
-    unfolding calls.does calls.onReceipt
+        ≡ result (kind.does (byte x) (stateOf b) m lent) m
+    unfolding kind.does kind.onReceipt
     waits-whole e = rw (← told, e, a .idle)
 
     pub declines-whole : (n : Refusal) → r ≡ Progress.Refused n
         → gave (record { board = record { id = b .id; serial = b .serial; model = b .model; held = held; len = 0; erase = b .erase }; answer = Answer.Refused n }) m lent
-        ≡ result (calls.does (byte x) (stateOf b) m lent) m
-    unfolding calls.does calls.onReceipt
+        ≡ result (kind.does (byte x) (stateOf b) m lent) m
+    unfolding kind.does kind.onReceipt
     declines-whole n e = rw (← told, e, a .idle)
 
     pub acts-whole : r ≡ Progress.Whole → (d : Done) (m' lent' : List ℕ)
         → gave d m' lent' ≡ result (onPacket (stateOf b .ident) m (take (b .len + 1) held) lent) m
-        → gave d m' lent' ≡ result (calls.does (byte x) (stateOf b) m lent) m
-    unfolding calls.does calls.onReceipt
+        → gave d m' lent' ≡ result (kind.does (byte x) (stateOf b) m lent) m
+    unfolding kind.does kind.onReceipt
     acts-whole e d m' lent' h = rw (← told, e) h
 
     pub acting : r ≡ Progress.Whole → b .len ≤ 72 → length (b .serial .bytes) ≡ 16 → length (b .model .bytes) ≡ 16
@@ -272,8 +365,7 @@ module _ (b : Board) (m lent : List ℕ) (a : Accepting b m lent) where
 
 -- ---- a packet
 
-pub packet-left : (d : Done) (b : Board) (e : Erase) (a : Answer) (m lent : List ℕ) (x y : Acted) (o : Result)
-    → (stateOf (d .board) ≡ leftState b e) × (d .answer ≡ a) → acted x (identityOf (b .id) (b .serial) (b .model)) m lent ≡ o → x ≡ y
-    → acted y (identityOf (b .id) (b .serial) (b .model)) m lent ≡ record { answer = answerOf a; state = leftState b e; store = m; buffer = lent }
-    → gave d m lent ≡ o
-packet-left d b e a m lent x y o left told is alike = rw (left .0, left .1) (sym alike ∙ rw is at told)
+pub packet-whole : (d : Done) (b : Board) (e : Erase) (a : Answer) (m lent : List ℕ) (x : Acted) (o : Result)
+    → acted x (identityOf (b .id) (b .serial) (b .model)) m lent ≡ o → (stateOf (d .board) ≡ leftState b e) × (d .answer ≡ a)
+    → eraseOf e ≡ eraseAfter x → answerOf a ≡ answerAfter x → gave d m lent ≡ o
+packet-whole d b e a m lent x o told left f g = rw (left .0, left .1, f, g) told

@@ -8,17 +8,17 @@ use lib.Dec.{ltb}
 use lib.ListN.{length, getD, set, drop}
 use borrow.Author.Tests.{ne-eqb}
 use Rattle.wire.specs.Packet.{over}
-use Rattle.wire.proofs.DigitLaws.{cond-by}
+use Rattle.wire.proofs.Tests.{cond-by}
 use Rattle.store.specs.Layout.{unusedStore}
-use Rattle.erase.specs.Board.{Identity, begun, ended, reply}
-use Rattle.erase.specs.Calls.{isShort, atRest, refuse, onCall}
-use Rattle.erase.specs.Lists.{call, step, cut, from, run, Acceptance, identity, traceAfter}
-use Rattle.erase.proofs.Demand as kinds
-use Rattle.erase.proofs.Steps.{Called, refuses, does, called}
-use Rattle.erase.proofs.Kept.{unused-startable, rest-start}
-use Rattle.erase.proofs.Theorem.{erases}
+use Rattle.calls.specs.Board.{Identity, begun, ended, reply}
+use Rattle.calls.specs.Calls.{isShort, atRest, refuse, onCall}
+use Rattle.calls.specs.Lists.{call, step, cut, from, run, Acceptance, identity, traceAfter}
+use Rattle.calls.proofs.Demand as kinds
+use Rattle.calls.proofs.Steps.{Called, refuses, does, called}
+use Rattle.calls.proofs.Kept.{unused-startable, rest-start}
+use Rattle.calls.proofs.Theorem.{erases}
 use Rattle.packets.specs.Packets.{BoardState, isIdentity}
-use Rattle.board.specs.Calls.{Call, byte, gap, lastAnswer, lastBuffer, owes, thisBoard}
+use Rattle.board.specs.BoardKind.{Call, byte, gap, lastAnswer, lastBuffer, owes, boardKind}
 use Rattle.board.specs.Demand3.{Events, unusedBytes, eraseReplyBytes, unusedTrace, expected, NoneSent, reaches, owed, Demand3}
 use Rattle.board.proofs.BoardLaws.{resting, board-laws}
 use Rattle.board.proofs.Numbers.{reply-bytes, unused-bytes}
@@ -26,10 +26,10 @@ use Rattle.board.proofs.EraseRequest.{acceptable}
 
 -- ---- what is expected
 
-unused-trace : (i : Identity) (es : Events) → isIdentity i ≡ true → kinds.runUnused thisBoard i es ≡ unusedTrace i es
+unused-trace : (i : Identity) (es : Events) → isIdentity i ≡ true → kinds.runUnused boardKind i es ≡ unusedTrace i es
 unfolding kinds.runUnused from unusedTrace
 unused-trace i es named = rw (← unused-bytes, rest-start board-laws (unused-startable board-laws named))
-    (ap (λ (m : List ℕ). run thisBoard i (atRest thisBoard i) m es) unused-bytes)
+    (ap (λ (m : List ℕ). run boardKind i (atRest boardKind i) m es) unused-bytes)
 
 last-answer : (i : Identity) (owed : Bool) → isIdentity i ≡ true → lastAnswer i owed ≡ cond owed (reply 27) ended
 last-answer i true named = rw (reply-bytes i named)
@@ -40,7 +40,7 @@ unfolding over
 last-buffer i true lent named = rw (reply-bytes i named)
 last-buffer i false lent named = refl
 
-written-out : (i : Identity) → isIdentity i ≡ true → (w : Bool) (n : ℕ) (m : List ℕ) (es : Events) → kinds.expected thisBoard i w n m es ≡ expected i w n m es
+written-out : (i : Identity) → isIdentity i ≡ true → (w : Bool) (n : ℕ) (m : List ℕ) (es : Events) → kinds.expected boardKind i w n m es ≡ expected i w n m es
 unfolding kinds.expected kinds.wiped expected isShort unusedStore
 written-out i named w n m [] = refl
 written-out i named w n m (call (byte b) lent ∷ es) = rw (written-out i named w n m es)
@@ -59,24 +59,24 @@ written-out i named w n m (step lent ∷ es) =
 -- ---- an acceptance
 
 -- what answers erase begun is a sound board with no erase pending
-accepted-named : (a : Acceptance thisBoard) → isIdentity (a .state .ident) ≡ true
+accepted-named : (a : Acceptance boardKind) → isIdentity (a .state .ident) ≡ true
 unfolding refuse
-accepted-named a = go (called thisBoard (a .given) (a .state) (a .store) (a .lent))
+accepted-named a = go (called boardKind (a .given) (a .state) (a .store) (a .lent))
   where
-    go : Called thisBoard (a .given) (a .state) (a .store) (a .lent) (onCall thisBoard (a .given) (a .state) (a .store) (a .lent)) → isIdentity (a .state .ident) ≡ true
+    go : Called boardKind (a .given) (a .state) (a .store) (a .lent) (onCall boardKind (a .given) (a .state) (a .store) (a .lent)) → isIdentity (a .state .ident) ≡ true
     go (refuses n e) = cc (a .accepts)
     go (does q h e) = resting (a .state) (a .store) q h .named
 
-owed-as : (c : Call) (s : BoardState) (m lent : List ℕ) (e : onCall thisBoard c s m lent .answer ≡ begun)
+owed-as : (c : Call) (s : BoardState) (m lent : List ℕ) (e : onCall boardKind c s m lent .answer ≡ begun)
     → owes c s ≡ owed (record { given = c; state = s; store = m; lent = lent; accepts = e })
 unfolding owes owed
 owed-as (byte b) s m lent e = refl
 owed-as gap s m lent e = sym (ne-eqb 0 (0x40 + s .ident .id) (λ z. omega arith))
 
-trace-is : (a : Acceptance thisBoard) (es : Events) → traceAfter thisBoard a es ≡ expected (identity thisBoard a) (owed a) 0 (set (a .store) 0 0xE7) es
+trace-is : (a : Acceptance boardKind) (es : Events) → traceAfter boardKind a es ≡ expected (identity boardKind a) (owed a) 0 (set (a .store) 0 0xE7) es
 unfolding identity
 trace-is a es =
-    let E = erases thisBoard board-laws in
+    let E = erases boardKind board-laws in
     E .traced a es
     ∙ rw (E .stored a, owed-as (a .given) (a .state) (a .store) (a .lent) (a .accepts)) (written-out (a .state .ident) (accepted-named a) (owed a) 0 (set (a .store) 0 0xE7) es)
 
@@ -95,7 +95,7 @@ none-sent i w n m (step lent ∷ es) h =
 
 pub demand3 : Demand3
 demand3 =
-    let E = erases thisBoard board-laws in
+    let E = erases boardKind board-laws in
     record {
       accepted-store = E .stored;
       accepted-buffer = E .untouched;

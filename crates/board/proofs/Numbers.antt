@@ -4,17 +4,17 @@ use mathlib.Core.Bool.{Bool, true, _&&_}
 use mathlib.Core.List.{List}
 use Prim.Native.Nat.{ℕ, zero, suc, _<_}
 use native.Mathlib.Omega.{arith}
-use Rattle.wire.specs.Packet.{xorFrom, packet, zeroByte}
+use Rattle.wire.specs.Packet.{xorFrom, packet, zeroByte, typeE}
 use Rattle.messages.specs.Message.Request.{setParameter}
 use Rattle.messages.specs.Message.Reply.{setReply}
-use Rattle.messages.specs.Text.{typeE, replyType, replyText, parameterText, requestText}
+use Rattle.messages.specs.Text.{replyType, replyText, parameterText, requestText}
 use Rattle.store.specs.Layout.{unusedStore}
-use Rattle.store.proofs.StoreLaws.{both}
-use Rattle.erase.specs.Board.{Identity}
-use Rattle.erase.specs.Calls.{same}
-use Rattle.erase.proofs.FirstBytes.{same-eq}
+use Rattle.wire.proofs.Tests.{both}
+use Rattle.calls.specs.Board.{Identity}
+use Rattle.calls.specs.Calls.{same}
+use Rattle.calls.proofs.FirstBytes.{same-eq}
 use Rattle.packets.specs.Packets.{isIdentity, replyWith}
-use Rattle.board.specs.Calls.{eraseReply}
+use Rattle.board.specs.BoardKind.{eraseReply}
 use Rattle.board.specs.Demand3.{unusedBytes, eraseReplyBytes, eraseRequest}
 use Rattle.packets.proofs.IdentityLaws.{named-told}
 

@@ -3,22 +3,22 @@ use mathlib.Core.Path.{_≡_, refl, ap, sym, _∙_}
 use mathlib.Core.Bool.{Bool, true, false, cond, not}
 use mathlib.Core.List.{List, [], _∷_, _++_}
 use mathlib.Core.Logic.{_⊎_, inl, inr}
-use Prim.Native.Nat.{ℕ, _-_, _≤_}
+use Prim.Native.Nat.{ℕ, _≤_}
 use native.Mathlib.Omega.{arith}
 use lib.Dec.{ltb, eqb}
 use lib.ListN.{length, getD}
-use Rattle.wire.specs.Packet.{soh, stx, etx, cr, zeroByte, size, checkCode, textOf}
+use Rattle.wire.specs.Packet.{soh, zeroByte, size, packetText}
 use Rattle.wire.specs.Judge as judge
-use Rattle.wire.proofs.DigitLaws.{cond-by}
+use Rattle.wire.proofs.Tests.{cond-by}
 use Rattle.messages.specs.Read.{requestIn}
 use Rattle.receiver.specs.Receive as receive
-use Rattle.erase.specs.Board.{Identity, waiting, refused, idle, pending}
-use Rattle.erase.specs.Calls.{refuse, stepOn, onCall, onStep}
-use Rattle.erase.proofs.Steps.{Called, Stepped, refuses, does, clears, called, stepped, step-clears-or-ends}
+use Rattle.calls.specs.Board.{Identity, waiting, refused, idle}
+use Rattle.calls.specs.Calls.{refuse, onCall, clearStep, endStep, eraseStep, onStep}
+use Rattle.calls.proofs.Steps.{Called, Stepped, refuses, does, clears, called, stepped, step-clears-or-ends}
 use Rattle.actions.specs.Act.{Effect, replies, begins, effect}
 use Rattle.packets.specs.Packets.{BoardState, BoardOutcome, answers, Addressee, own, all, another, addressee, toOwn, toAll, onPacketTo, onPacket}
-use Rattle.board.specs.Calls.{Call, byte, gap, onReceipt, lastAnswer, thisBoard}
-use Rattle.board.specs.Calls as board
+use Rattle.board.specs.BoardKind.{Call, byte, gap, onReceipt, lastAnswer, boardKind}
+use Rattle.board.specs.BoardKind as board
 use Rattle.board.proofs.BoardLaws.{nothing-is}
 
 -- ---- the receiver's refusals
@@ -42,13 +42,12 @@ header-numbered g =
 packet-numbered : (g : List ℕ) → Numbered (judge.packetVerdict g)
 unfolding judge.packetVerdict
 packet-numbered g =
-    tested (eqb (getD g (size g - 1) 0) cr) 5 _ (omega arith) (omega arith)
-    (tested (eqb (getD g (size g - 2) 0) (checkCode g)) 6 _ (omega arith) (omega arith)
-    (tested (eqb (getD g 7 0) stx) 7 _ (omega arith) (omega arith)
-    (tested (eqb (getD g (size g - 3) 0) etx) 7 judge.good (omega arith) (omega arith) tt)))
+    tested (judge.endsInReturn g) 5 _ (omega arith) (omega arith)
+    (tested (judge.hasCheckCode g) 6 _ (omega arith) (omega arith)
+    (tested (judge.isMessage g) 7 judge.good (omega arith) (omega arith) tt))
 
 -- a refusal leaves nothing held; with 1 nothing was held before
-abbrev Declined : List ℕ → receive.Answer → List ℕ → Type 0
+abbrev Declined : List ℕ → receive.Reception → List ℕ → Type 0
 Declined held receive.waiting left = Unit {0}
 Declined held (receive.refused n) left = (left ≡ []) × (((n ≡ 1) × (held ≡ [])) ⊎ ((2 ≤ n) × (n ≤ 7)))
 Declined held (receive.whole p) left = Unit {0}
@@ -79,11 +78,11 @@ accept-declines held b =
 
 -- what a refused call leaves: all as it was, or, with 2 to 8, all but the bytes held, of which there are none
 pub data Refused (s : BoardState) (lent : List ℕ) (n : ℕ) (o : BoardOutcome) : Type 0 where
-  unchanged : o ≡ refuse thisBoard n s lent → Refused s lent n o
+  unchanged : o ≡ refuse boardKind n s lent → Refused s lent n o
   emptied : 2 ≤ n → n ≤ 8 → o ≡ answers (refused n) (s .ident) [] lent → Refused s lent n o
 
 module _ (s : BoardState) (m lent : List ℕ) (n : ℕ) (q : s .erase ≡ idle) where
-  effect-refused : (to : Addressee) (p : List ℕ) (x : Effect) → effect (s .ident) m (requestIn (getD p 4 0) (textOf p)) ≡ x
+  effect-refused : (to : Addressee) (p : List ℕ) (x : Effect) → effect (s .ident) m (requestIn (getD p 4 0) (packetText p)) ≡ x
       → onPacketTo to (s .ident) m p lent .answer ≡ refused n → Refused s lent n (onPacketTo to (s .ident) m p lent)
   unfolding onPacketTo toOwn toAll
   effect-refused own p (replies r es) is e = let z : _≡_ {A = ℕ} 0 1 = cc in absurd (omega arith)
@@ -94,7 +93,7 @@ module _ (s : BoardState) (m lent : List ℕ) (n : ℕ) (q : s .erase ≡ idle) 
       let z : 8 ≡ n = cc in
       emptied (omega arith) (omega arith) (ap (λ (k : ℕ). answers (refused k) (s .ident) [] lent) z)
 
-  receipt-refused : (a : receive.Answer) (held : List ℕ) → Declined (s .held) a held
+  receipt-refused : (a : receive.Reception) (held : List ℕ) → Declined (s .held) a held
       → onReceipt a held (s .ident) m lent .answer ≡ refused n → Refused s lent n (onReceipt a held (s .ident) m lent)
   unfolding onReceipt onPacket refuse
   receipt-refused receive.waiting held d e = let z : _≡_ {A = ℕ} 0 1 = cc in absurd (omega arith)
@@ -105,20 +104,20 @@ module _ (s : BoardState) (m lent : List ℕ) (n : ℕ) (q : s .erase ≡ idle) 
   receipt-refused (receive.refused k) held (l, inr f) e =
       let z : k ≡ n = cc in
       emptied (omega arith) (omega arith) (λ j. answers (refused (z j)) (s .ident) (l j) lent)
-  receipt-refused (receive.whole p) held d e = effect-refused (addressee (s .ident) (getD p 2 0)) p _ refl e
+  receipt-refused (receive.whole p) held d e = effect-refused (addressee (s .ident .id) (getD p 2 0)) p _ refl e
 
   done-refused : (c : Call) → board.does c s m lent .answer ≡ refused n → Refused s lent n (board.does c s m lent)
   unfolding board.does
   done-refused (byte b) e = receipt-refused _ _ (accept-declines (s .held) b) e
   done-refused gap e = let z : _≡_ {A = ℕ} 0 1 = cc in absurd (omega arith)
 
-pub call-refused : (c : Call) (s : BoardState) (m lent : List ℕ) (n : ℕ) → onCall thisBoard c s m lent .answer ≡ refused n
-    → Refused s lent n (onCall thisBoard c s m lent)
+pub call-refused : (c : Call) (s : BoardState) (m lent : List ℕ) (n : ℕ) → onCall boardKind c s m lent .answer ≡ refused n
+    → Refused s lent n (onCall boardKind c s m lent)
 unfolding refuse
-call-refused c s m lent n a = go (called thisBoard c s m lent)
+call-refused c s m lent n a = go (called boardKind c s m lent)
   where
-    go : Called thisBoard c s m lent (onCall thisBoard c s m lent) → Refused s lent n (onCall thisBoard c s m lent)
-    go (refuses k e) = let z : k ≡ n = cc in unchanged (e ∙ ap (λ (k : ℕ). refuse thisBoard k s lent) z)
+    go : Called boardKind c s m lent (onCall boardKind c s m lent) → Refused s lent n (onCall boardKind c s m lent)
+    go (refuses k e) = let z : k ≡ n = cc in unchanged (e ∙ ap (λ (k : ℕ). refuse boardKind k s lent) z)
     go (does q h e) = rw e (done-refused s m lent n q c (rw e at a))
 
 -- a step that is refused changes nothing
@@ -126,15 +125,16 @@ last-not-refused : (i : Identity) (owed : Bool) (n : ℕ) → lastAnswer i owed 
 last-not-refused i true n e = let z : _≡_ {A = ℕ} 0 1 = cc in omega arith
 last-not-refused i false n e = let z : _≡_ {A = ℕ} 0 1 = cc in omega arith
 
-clear-not-refused : (p : ℕ) (owed : Bool) (s : BoardState) (lent : List ℕ) (n : ℕ) → stepOn thisBoard (pending p owed) s lent .answer ≡ refused n → ⊥
+clear-not-refused : (p : ℕ) (owed : Bool) (s : BoardState) (lent : List ℕ) (n : ℕ) → eraseStep boardKind p owed s lent .answer ≡ refused n → ⊥
+unfolding clearStep endStep
 clear-not-refused p owed s lent n =
-    step-clears-or-ends thisBoard (λ o. o .answer ≡ refused n → ⊥) p owed s lent
+    step-clears-or-ends boardKind (λ o. o .answer ≡ refused n → ⊥) p owed s lent
     (λ t e. let z : _≡_ {A = ℕ} 0 1 = cc in omega arith) (λ t e. last-not-refused (s .ident) owed n e)
 
-pub step-refused : (s : BoardState) (m lent : List ℕ) (n : ℕ) → onStep thisBoard s m lent .answer ≡ refused n → onStep thisBoard s m lent ≡ refuse thisBoard n s lent
+pub step-refused : (s : BoardState) (m lent : List ℕ) (n : ℕ) → onStep boardKind s m lent .answer ≡ refused n → onStep boardKind s m lent ≡ refuse boardKind n s lent
 unfolding refuse
-step-refused s m lent n a = go (stepped thisBoard s m lent)
+step-refused s m lent n a = go (stepped boardKind s m lent)
   where
-    go : Stepped thisBoard s m lent (onStep thisBoard s m lent) → onStep thisBoard s m lent ≡ refuse thisBoard n s lent
-    go (refuses k e) = let z : k ≡ n = cc in e ∙ ap (λ (k : ℕ). refuse thisBoard k s lent) z
+    go : Stepped boardKind s m lent (onStep boardKind s m lent) → onStep boardKind s m lent ≡ refuse boardKind n s lent
+    go (refuses k e) = let z : k ≡ n = cc in e ∙ ap (λ (k : ℕ). refuse boardKind k s lent) z
     go (clears p owed q h e) = absurd (clear-not-refused p owed s lent n (rw e at a))

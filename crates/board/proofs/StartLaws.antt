@@ -10,16 +10,16 @@ use borrow.Author.Tests.{eq-eqb, ne-eqb, eqb-true, lt-leb}
 use lib.Dec.{eqb}
 use lib.ListN.{length}
 use Rattle.plan.specs.Stores.{applied}
-use Rattle.erase.specs.Board.{Identity, Started, board, noBoard}
-use Rattle.erase.proofs.FirstBytes.{clear-first}
-use Rattle.erase.proofs.Pending.{pending-sound}
-use Rattle.erase.proofs.Kept.{rest-sound}
-use Rattle.wire.proofs.DigitLaws.{cond-by}
-use Rattle.store.proofs.StoreLaws.{both}
-use Rattle.erase.specs.Calls.{mark, isShort, refuse, atRest, isSound, onCall, onStep, onStart}
+use Rattle.calls.specs.Board.{Identity, Started, board, startRefused}
+use Rattle.calls.proofs.FirstBytes.{clear-first}
+use Rattle.calls.proofs.Pending.{pending-sound}
+use Rattle.calls.proofs.Steps.{refusal-changes-nothing}
+use Rattle.calls.proofs.Kept.{rest-sound}
+use Rattle.wire.proofs.Tests.{cond-by, both}
+use Rattle.calls.specs.Calls.{mark, isShort, refuse, atRest, isSound, onCall, onStep, onStart}
 use Rattle.store.specs.Layout.{unusedStore, fieldsInRange}
 use Rattle.packets.specs.Packets.{BoardState, isIdentity}
-use Rattle.board.specs.Calls.{Call, lends, startOther, thisBoard}
+use Rattle.board.specs.BoardKind.{Call, lends, startOther, boardKind}
 use Rattle.board.proofs.BoardLaws.{board-laws}
 
 -- ---- identities out of range
@@ -38,26 +38,28 @@ no-id i e = rw (lt-leb 1 (i .id) (omega arith))
 
 -- ---- what they get
 
-unnamed-unsound : (s : BoardState) (m : List ℕ) → isIdentity (s .ident) ≡ false → isSound thisBoard s m ≡ false
+unnamed-unsound : (s : BoardState) (m : List ℕ) → isIdentity (s .ident) ≡ false → isSound boardKind s m ≡ false
 unfolding isSound
 unnamed-unsound s m e = rw e
 
-refusals : (t : Bool) (s : BoardState) (lent : List ℕ) → cond t (refuse thisBoard 10 s lent) (refuse thisBoard 12 s lent) ≡ refuse thisBoard (cond t 10 12) s lent
-refusals true s lent = refl
-refusals false s lent = refl
-
 pub unnamed-call-refused : (c : Call) (s : BoardState) (m lent : List ℕ) → isIdentity (s .ident) ≡ false
-    → onCall thisBoard c s m lent ≡ refuse thisBoard (cond (lends c && isShort lent) 10 12) s lent
-unfolding onCall
-unnamed-call-refused c s m lent e = rw (unnamed-unsound s m e) (refusals (lends c && isShort lent) s lent)
+    → onCall boardKind c s m lent ≡ refuse boardKind (cond (lends c && isShort lent) 10 12) s lent
+unnamed-call-refused c s m lent e = go (lends c && isShort lent) refl
+  where
+    go : (t : Bool) → (lends c && isShort lent) ≡ t → onCall boardKind c s m lent ≡ refuse boardKind (cond t 10 12) s lent
+    go true f = refusal-changes-nothing boardKind .short-call c s m lent f
+    go false f = refusal-changes-nothing boardKind .unsound-call c s m lent f (unnamed-unsound s m e)
 
 pub unnamed-step-refused : (s : BoardState) (m lent : List ℕ) → isIdentity (s .ident) ≡ false
-    → onStep thisBoard s m lent ≡ refuse thisBoard (cond (isShort lent) 10 12) s lent
-unfolding onStep
-unnamed-step-refused s m lent e = rw (unnamed-unsound s m e) (refusals (isShort lent) s lent)
+    → onStep boardKind s m lent ≡ refuse boardKind (cond (isShort lent) 10 12) s lent
+unnamed-step-refused s m lent e = go (isShort lent) refl
+  where
+    go : (t : Bool) → isShort lent ≡ t → onStep boardKind s m lent ≡ refuse boardKind (cond t 10 12) s lent
+    go true f = refusal-changes-nothing boardKind .short-step s m lent f
+    go false f = refusal-changes-nothing boardKind .unsound-step s m lent f (unnamed-unsound s m e)
 
 pub unnamed-start-refused : (i : Identity) (m : List ℕ) → length m ≡ 128 → (mark m ≡ 0) ⊎ (mark m ≡ 0xE7) → isIdentity i ≡ false
-    → onStart thisBoard i m ≡ noBoard 12
+    → onStart boardKind i m ≡ startRefused 12
 unfolding onStart startOther mark unusedStore
 unnamed-start-refused i m size (inl k) e =
     let z : eqb (mark m) 0xE7 ≡ false = ne-eqb (mark m) 0xE7 (λ q. omega arith) in
@@ -67,10 +69,10 @@ unnamed-start-refused i m size (inr k) e = rw (eq-eqb (length m) 128 size, eq-eq
 -- ---- what a start gives is sound
 
 abbrev pub SoundlyStarted : List ℕ → Started BoardState → Type 0
-SoundlyStarted m (board s es) = isSound thisBoard s (applied es m) ≡ true
-SoundlyStarted m (noBoard n) = Unit {0}
+SoundlyStarted m (board s es) = isSound boardKind s (applied es m) ≡ true
+SoundlyStarted m (startRefused n) = Unit {0}
 
-pub started-sound : (i : Identity) (m : List ℕ) → SoundlyStarted m (onStart thisBoard i m)
+pub started-sound : (i : Identity) (m : List ℕ) → SoundlyStarted m (onStart boardKind i m)
 unfolding onStart startOther atRest
 started-sound i m =
     cond-by (SoundlyStarted m) (eqb (length m) 128 && eqb (mark m) 0xE7) _ _

@@ -1,4 +1,4 @@
--- DEMAND 3 of this board (document 01, 'Demand 3 in full'), its numbers written out.
+-- DEMAND 3 of this board (docs/RULES.md, 'Demand 3', D3a to D3e), its numbers written out.
 -- Take a board with any past and let it accept an erase. Whatever list of bytes, gaps, erase steps and power cuts follows, with lent
 -- buffers of any length and content, what is seen of it is `expected`: until the 128th step since the acceptance or the latest start
 -- nothing is sent; the 128th leaves the bytes of an unused board; and from then on the board shows what an unused board shows.
@@ -11,11 +11,11 @@ use lib.Bits.{bitXor}
 use lib.Dec.{ltb, eqb}
 use lib.ListN.{length, getD, set, drop, replicate}
 use Rattle.plan.specs.Stores.{applied}
-use Rattle.erase.specs.Board.{Identity, Answer, waiting, silent, begun, more, ended, refused, reply, idle, Started, board, noBoard, after}
-use Rattle.erase.specs.Calls.{isSound, onStart}
-use Rattle.erase.specs.Lists.{Event, call, step, cut, Seen, answered, started, unstarted, AllStarted, run, Acceptance, traceAfter, identity, left, ends}
+use Rattle.calls.specs.Board.{Identity, Answer, waiting, silent, begun, more, ended, refused, reply, idle, Started, board, startRefused, after}
+use Rattle.calls.specs.Calls.{isSound, onStart}
+use Rattle.calls.specs.Lists.{Event, call, step, cut, Seen, answered, started, unstarted, AllStarted, run, Acceptance, traceAfter, identity, left, ends}
 use Rattle.packets.specs.Packets.{BoardState}
-use Rattle.board.specs.Calls.{Call, byte, gap, thisBoard}
+use Rattle.board.specs.BoardKind.{Call, byte, gap, boardKind}
 
 abbrev pub Events : Type 0
 Events = List (Event Call)
@@ -36,11 +36,11 @@ eraseReplyBytes id =
 
 -- the unused board: what a start gives on an unused board's bytes and the same identity
 unfoldable pub unusedTrace : Identity → Events → Trace
-unusedTrace i es = seenFrom (onStart thisBoard i unusedBytes)
+unusedTrace i es = seenFrom (onStart boardKind i unusedBytes)
   where
     seenFrom : Started BoardState → Trace
-    seenFrom (board s stores) = run thisBoard i s (applied stores unusedBytes) es
-    seenFrom (noBoard n) = unstarted n ∷ []
+    seenFrom (board s stores) = run boardKind i s (applied stores unusedBytes) es
+    seenFrom (startRefused n) = unstarted n ∷ []
 
 -- What must be seen of a list after the acceptance. n steps have run since the acceptance or the latest start, m is the store; `owed`:
 -- the request went to this board's own address and no start came since.
@@ -89,7 +89,7 @@ eraseRequest dest =
     ∷ bitXor 0x43 dest ∷ 0x0D ∷ []
 
 -- the byte that answered begun completed a packet to the board's own address
-unfoldable pub owed : Acceptance thisBoard → Bool
+unfoldable pub owed : Acceptance boardKind → Bool
 owed a = eqb (getD (packetOf (a .given)) 2 0) (0x40 + a .state .ident .id)
   where
     packetOf : Call → List ℕ
@@ -98,20 +98,20 @@ owed a = eqb (getD (packetOf (a .given)) 2 0) (0x40 + a .state .ident .id)
 
 pub record Demand3 : Type 0 where
   -- the acceptance stores E7h in byte 0 and nothing else, and leaves the lent buffer alone
-  pub accepted-store : (a : Acceptance thisBoard) → after (left thisBoard a) (a .store) ≡ set (a .store) 0 0xE7
-  pub accepted-buffer : (a : Acceptance thisBoard) → left thisBoard a .buffer ≡ a .lent
+  pub accepted-store : (a : Acceptance boardKind) → after (left boardKind a) (a .store) ≡ set (a .store) 0 0xE7
+  pub accepted-buffer : (a : Acceptance boardKind) → left boardKind a .buffer ≡ a .lent
   -- what is seen of every list after it
-  pub traced : (a : Acceptance thisBoard) (es : Events) → traceAfter thisBoard a es ≡ expected (identity thisBoard a) (owed a) 0 (set (a .store) 0 0xE7) es
+  pub traced : (a : Acceptance boardKind) (es : Events) → traceAfter boardKind a es ≡ expected (identity boardKind a) (owed a) 0 (set (a .store) 0 0xE7) es
   -- in other words: until the 128th step nothing is sent
-  pub silent-until : (a : Acceptance thisBoard) (es : Events) → reaches 0 es ≡ false → NoneSent (traceAfter thisBoard a es)
+  pub silent-until : (a : Acceptance boardKind) (es : Events) → reaches 0 es ≡ false → NoneSent (traceAfter boardKind a es)
   -- no start is refused, before the 128th step and after it
-  pub startable : (a : Acceptance thisBoard) (es : Events) → AllStarted (traceAfter thisBoard a es)
+  pub startable : (a : Acceptance boardKind) (es : Events) → AllStarted (traceAfter boardKind a es)
   -- two boards of one identity, each erased by a list of its own, show the same to every list from then on
-  pub alike : (a₁ a₂ : Acceptance thisBoard) → identity thisBoard a₁ ≡ identity thisBoard a₂
+  pub alike : (a₁ a₂ : Acceptance boardKind) → identity boardKind a₁ ≡ identity boardKind a₂
       → (es₁ es₂ : Events) → ends 0 es₁ ≡ true → ends 0 es₂ ≡ true
-      → (fs : Events) → drop (length es₁) (traceAfter thisBoard a₁ (es₁ ++ fs)) ≡ drop (length es₂) (traceAfter thisBoard a₂ (es₂ ++ fs))
+      → (fs : Events) → drop (length es₁) (traceAfter boardKind a₁ (es₁ ++ fs)) ≡ drop (length es₂) (traceAfter boardKind a₂ (es₂ ++ fs))
   -- every sound board with no erase pending, on or in standby, accepts: a gap, and the request to its ID or to ALL
-  pub acceptable : (s : BoardState) (m lent : List ℕ) (dest : ℕ) → isSound thisBoard s m ≡ true → s .erase ≡ idle → 64 ≤ length lent
+  pub acceptable : (s : BoardState) (m lent : List ℕ) (dest : ℕ) → isSound boardKind s m ≡ true → s .erase ≡ idle → 64 ≤ length lent
       → (dest ≡ 0x40 + s .ident .id) ⊎ (dest ≡ 0x2A)
-      → answersIn (run thisBoard (s .ident) s m (call gap lent ∷ map (λ (b : ℕ). call (byte b) lent) (eraseRequest dest)))
+      → answersIn (run boardKind (s .ident) s m (call gap lent ∷ map (λ (b : ℕ). call (byte b) lent) (eraseRequest dest)))
       ≡ replicate 19 waiting ++ (begun ∷ [])

@@ -1,4 +1,5 @@
-pub mod Calls
+pub mod BoardKind
 pub mod Demand3
 pub mod Fed
 pub mod View
+pub mod Inner

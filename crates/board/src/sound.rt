@@ -1,23 +1,23 @@
 // Whether a board and its store are sound.
 ghost use mathlib.Core.Path.{_≡_};
-ghost use mathlib.Core.Bool.{_&&_};
-ghost use Prim.Native.Nat.{_≤_};
-ghost use lib.Dec.{leb, eqb};
 ghost use lib.ListN.{length, take};
-ghost use Rattle.erase.specs.Calls.{isSoundAs};
-ghost use Rattle.board.specs.Calls.{thisBoard};
-ghost use Rattle.board.specs.View.{eraseOf, identityFits, soundWith, pendingFits};
+ghost use Rattle.wire.specs.Packet.{mostPacket};
+ghost use Rattle.calls.specs.Calls.{isSoundAs};
+ghost use Rattle.board.specs.BoardKind.{boardKind};
+ghost use Rattle.board.specs.View.{eraseOf};
+ghost use Rattle.board.specs.Inner.{identityFits, soundWith, pendingFits};
 use crate::board::Erase;
 use store::fields;
+use wire::packet;
 
 // An identity in range, by its ID and the counts of serial number and model.
 pub fn is_identity(id: u8, serial: usize, model: usize) -> bool
     ensures { λ r. ⌜ r ≡ identityFits id serial model ⌝ }
 {
-    if id < 1 {
+    if id < packet::LEAST_ID {
         return false;
     }
-    if 8 < id {
+    if packet::MOST_ID < id {
         return false;
     }
     if 16 < serial {
@@ -27,8 +27,8 @@ pub fn is_identity(id: u8, serial: usize, model: usize) -> bool
 }
 
 // The store, the held bytes and the erase agree.
-pub fn is_sound(held: &[u8; 73], len: u8, erase: Erase, store: &[u8]) -> bool
-    requires { ⌜ length (now held) ≡ 73 ⌝ }
+pub fn is_sound(held: &[u8; packet::MOST_PACKET], len: u8, erase: Erase, store: &[u8]) -> bool
+    requires { ⌜ length (now held) ≡ mostPacket ⌝ }
     ensures { λ r. ⌜ r ≡ soundWith (take len (now (held .entry))) erase (now (store .entry)) ⌝ }
 {
     if store.len() != 128 {
@@ -44,11 +44,11 @@ pub fn is_sound(held: &[u8; 73], len: u8, erase: Erase, store: &[u8]) -> bool
     }
 }
 
-fn is_sound_idle(held: &[u8; 73], len: u8, store: &[u8]) -> bool
+fn is_sound_idle(held: &[u8; packet::MOST_PACKET], len: u8, store: &[u8]) -> bool
     requires { ⌜ length (now store) ≡ 128 ⌝ }
-    ensures { λ r. ⌜ r ≡ isSoundAs thisBoard (eraseOf Erase.Idle) (take len (now (held .entry))) (now (store .entry)) ⌝ }
+    ensures { λ r. ⌜ r ≡ isSoundAs boardKind (eraseOf Erase.Idle) (take len (now (held .entry))) (now (store .entry)) ⌝ }
 {
-    if store[0] != 0 {
+    if store[0] != fields::UNUSED_MARK {
         return false;
     }
     if !fields::fields_in_range(store) {
@@ -61,7 +61,7 @@ fn is_sound_pending(len: u8, place: u8, store: &[u8]) -> bool
     requires { ⌜ length (now store) ≡ 128 ⌝ }
     ensures { λ r. ⌜ r ≡ pendingFits len place (now (store .entry)) ⌝ }
 {
-    if store[0] != 0xE7 {
+    if store[0] != calls::ERASE_MARK {
         return false;
     }
     if len != 0 {
@@ -74,5 +74,5 @@ fn is_sound_pending(len: u8, place: u8, store: &[u8]) -> bool
         return false;
     }
     let unused = fields::unused();
-    erase::is_cleared(store, &unused, place as usize)
+    calls::is_cleared(store, &unused, place as usize)
 }

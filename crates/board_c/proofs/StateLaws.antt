@@ -4,51 +4,48 @@ use mathlib.Core.Bool.{true, false}
 use mathlib.Core.List.{List, [], _∷_, _++_, map, append-assoc, append-nil}
 use mathlib.Core.Path.{_≡_, refl, sym, ap, _∙_}
 use native.Mathlib.Omega.{arith}
-use lib.ListN.{length, getD, set, take, drop, replicate, length-append, length-take, length-drop, length-map, drop-of-length-le}
-use lib.Seq.{paste, take-length, take-take, take-at, drop-at, drop-drop, getD-drop}
+use lib.ListN.{length, getD, set, take, drop, replicate, length-set, length-append, take-append-drop, length-take, length-drop, length-map, drop-of-length-le}
+use lib.Seq.{paste, length-take-le, take-take, take-at, drop-at, drop-drop, getD-drop}
 use borrow.Author.Tests.{eq-eqb}
-use borrow.Rule.Slice.PartMut.{putMid}
 use Rattle.wire.specs.Packet.{over}
-use Rattle.wire.proofs.PacketLaws.{over-paste, over-set, over-length}
-use Rattle.store.specs.declared.contents.Text.{Text}
+use Rattle.wire.proofs.PacketLaws.{over-paste, over-set}
+use Rattle.store.specs.declared.contents.ItemBytes.{ItemBytes}
 use Rattle.store.proofs.FieldLaws.{copy-all}
 use Rattle.board.specs.declared.board.Board.{Board}
-use Rattle.board_c.specs.State.{bytesOf, boardIn, textBytes, textIn, eraseKind, erasePlace, eraseIn}
+use Rattle.calls.specs.Board.{placeOf}
+use Rattle.board.specs.View.{eraseOf}
+use Rattle.board_c.specs.State.{stateBytes, boardIn, countedItem, itemIn, eraseKind, eraseIn}
+use Rattle.board_c.specs.Inner.{identityBytes, progressBytes}
 use Rattle.board.specs.declared.board.Erase.{Erase}
 
 -- ---- a buffer written from its beginning
 
-pub over-all : (p o : List ℕ) → length p ≡ length o → over p o ≡ p
+over-all : (p o : List ℕ) → length p ≡ length o → over p o ≡ p
 unfolding over
 over-all p o e =
     let h : length o ≤ length p = omega arith in
     rw (drop-of-length-le o h, append-nil)
 
-pub first-over : (o : List ℕ) (b : ℕ) → 0 < length o → set o 0 b ≡ over (b ∷ []) o
+first-over : (o : List ℕ) (b : ℕ) → 0 < length o → set o 0 b ≡ over (b ∷ []) o
 unfolding over
 first-over o b h = over-set [] o 0 refl b h
 
-mid-paste : (k n : ℕ) (s t : List ℕ) → length t ≡ n → putMid k n s t ≡ paste s k t (length t)
-mid-paste k n s t e = rw (sym e, take-length, drop-drop, append-assoc)
-
 module _ (p o : List ℕ) (k : ℕ) (e : length p ≡ k) where
-  pub set-over : (s : List ℕ) (b : ℕ) → k < length o → s ≡ over p o → set s k b ≡ over (p ++ (b ∷ [])) o
+  set-over : (s : List ℕ) (b : ℕ) → k < length o → s ≡ over p o → set s k b ≡ over (p ++ (b ∷ [])) o
   set-over s b h q = rw q (over-set p o k e b h)
 
-  pub paste-over : (s t r : List ℕ) → s ≡ over p o → r ≡ paste s k t (length t) → r ≡ over (p ++ t) o
+  paste-over : (s t r : List ℕ) → s ≡ over p o → r ≡ paste s k t (length t) → r ≡ over (p ++ t) o
   paste-over s t r q w = w ∙ ap (λ (s : List ℕ). paste s k t (length t)) q ∙ over-paste p o k e t
 
-  pub mid-over : (s t r : List ℕ) (n : ℕ) → length t ≡ n → s ≡ over p o → r ≡ t → putMid k n s r ≡ over (p ++ t) o
-  mid-over s t r n l q w = ap (putMid k n s) w ∙ mid-paste k n s t l ∙ paste-over s t _ q refl
+-- the first part of a list stands in it
+front-over : (o : List ℕ) (k : ℕ) → k ≤ length o → o ≡ over (take k o) o
+unfolding over
+front-over o k h = rw (length-take-le k o h) (sym (take-append-drop k o))
 
-pub text-put : (t : Text) (o r : List ℕ) → length o ≡ 17 → length (t .bytes) ≡ 16
-    → r ≡ paste (set o 0 (t .count)) 1 (t .bytes) (length (t .bytes)) → r ≡ textBytes t
-text-put t o r size l q =
-    paste-over (t .count ∷ []) o 1 refl _ (t .bytes) r (first-over o (t .count) (omega arith)) q ∙ over-all (textBytes t) o (omega arith)
-
-parts : (i : ℕ) (s m : List ℕ) (l : ℕ) (h : List ℕ) (k p : ℕ)
-    → ((((((i ∷ []) ++ s) ++ m) ++ (l ∷ [])) ++ h) ++ (k ∷ [])) ++ (p ∷ []) ≡ i ∷ (s ++ (m ++ (l ∷ (h ++ (k ∷ p ∷ [])))))
-parts i s m l h k p = simp append-assoc
+-- what is written behind a first part is written from its end on
+behind-front : (o t r : List ℕ) (k : ℕ) → k ≤ length o → r ≡ over (take k o ++ t) o → r ≡ paste o k t (length t)
+behind-front o t r k h q =
+    q ∙ sym (over-paste (take k o) o k (length-take-le k o h) t) ∙ ap (λ (s : List ℕ). paste s k t (length t)) (sym (front-over o k h))
 
 -- the arrays of a board by value have their lengths
 pub record Sized (b : Board) : Type 0 where
@@ -56,7 +53,7 @@ pub record Sized (b : Board) : Type 0 where
   pub model : length (b .model .bytes) ≡ 16
   pub held : length (b .held) ≡ 73
 
-pub counted : (n : ℕ) (l : List ℕ) → length (map (λ (x : ℕ). x) l) ≡ n → length l ≡ n
+counted : (n : ℕ) (l : List ℕ) → length (map (λ (x : ℕ). x) l) ≡ n → length l ≡ n
 counted n l e = sym (length-map l (λ (x : ℕ). x)) ∙ e
 
 pub sized : (b : Board) → length (map (λ (x : ℕ). x) (b .serial .bytes)) ≡ 16 → length (map (λ (x : ℕ). x) (b .model .bytes)) ≡ 16
@@ -65,128 +62,142 @@ sized b s m h = record { serial = counted 16 (b .serial .bytes) s; model = count
 
 -- ---- a board written
 
-module _ (b : Board) (o : List ℕ) (size : length o ≡ 111) (z : Sized b) where
-  abbrev to-serial : List ℕ
-  to-serial = (b .id ∷ []) ++ textBytes (b .serial)
+-- a buffer after a store and a call that keeps its length
+module _ (o s : List ℕ) (i b : ℕ) (kept : length s ≡ length (set o i b)) where
+  pub length-after : length s ≡ length o
+  length-after = kept ∙ simp length-set
 
-  abbrev to-model : List ℕ
-  to-model = to-serial ++ textBytes (b .model)
+  pub length-behind : (s′ : List ℕ) → length s′ ≡ length s → length s′ ≡ length o
+  length-behind s′ e = e ∙ length-after
 
-  abbrev to-len : List ℕ
-  to-len = to-model ++ (b .len ∷ [])
+  pub room-after : (k n : ℕ) → length o ≡ n → k ≤ n → k ≤ length s
+  room-after k n size h = rw (length-after, size) h
 
-  abbrev to-held : List ℕ
-  to-held = to-len ++ b .held
+pub item-room : (o bytes : List ℕ) (at b : ℕ) → at + 17 ≤ length o → length bytes ≡ 16 → at + 1 + length bytes ≤ length (set o at b)
+item-room o bytes at b h l = simp length-set (omega arith)
 
-  serial-end : length to-serial ≡ 18
-  serial-end = simp length-append (omega (arith, z .serial))
+pub held-room : (o held : List ℕ) (b : ℕ) → length o ≡ 111 → length held ≡ 73 → 36 + length held ≤ length (set o 35 b)
+held-room o held b h l = simp length-set (omega arith)
 
-  model-end : length to-model ≡ 35
-  model-end = simp length-append (omega (arith, z .serial, z .model))
+pub item-put : (t : ItemBytes) (o r : List ℕ) (at : ℕ) → r ≡ paste (set o at (t .count)) (at + 1) (t .bytes) (length (t .bytes)) → at + 17 ≤ length o
+    → r ≡ paste o at (countedItem t) (length (countedItem t))
+item-put t o r at q h =
+    let l : length (take at o) ≡ at = length-take-le at o (omega arith) in
+    let first = set-over (take at o) o at l o (t .count) (omega arith) (front-over o at (omega arith)) in
+    let counted : length (take at o ++ (t .count ∷ [])) ≡ at + 1 = rw (length-append, l) in
+    let all = paste-over (take at o ++ (t .count ∷ [])) o (at + 1) counted _ (t .bytes) r first q in
+    behind-front o (countedItem t) r at (omega arith) (all ∙ rw (append-assoc (take at o) (t .count ∷ []) (t .bytes)))
 
-  len-end : length to-len ≡ 36
-  len-end = simp length-append (omega (arith, z .serial, z .model))
+pub identity-put : (id : ℕ) (serial model : ItemBytes) (o s r : List ℕ)
+    → s ≡ paste (set o 0 id) 1 (countedItem serial) (length (countedItem serial)) → r ≡ paste s 18 (countedItem model) (length (countedItem model))
+    → length o ≡ 111 → length (serial .bytes) ≡ 16 → r ≡ over (identityBytes id serial model) o
+identity-put id serial model o s r q w size l =
+    let first = paste-over (id ∷ []) o 1 refl _ (countedItem serial) s (first-over o id (omega arith)) q in
+    paste-over (id ∷ countedItem serial) o 18 (omega arith) s (countedItem model) r first w
 
-  held-end : length to-held ≡ 109
-  held-end = simp length-append (omega (arith, z .serial, z .model, z .held))
+pub progress-put : (len : ℕ) (held : List ℕ) (erase : Erase) (kind place : ℕ) (o s : List ℕ)
+    → s ≡ paste (set o 35 len) 36 held (length held) → kind ≡ eraseKind erase → place ≡ placeOf (eraseOf erase) → length o ≡ 111 → length held ≡ 73
+    → set (set s 109 kind) 110 place ≡ paste o 35 (progressBytes len held erase) (length (progressBytes len held erase))
+progress-put len held erase kind place o s q ek ep size l =
+    let front = take 35 o in
+    let end : length front ≡ 35 = length-take-le 35 o (omega arith) in
+    let to-len = front ++ (len ∷ []) in
+    let len-end : length to-len ≡ 36 = simp length-append (omega arith) in
+    let to-held = to-len ++ held in
+    let held-end : length to-held ≡ 109 = simp length-append (omega arith) in
+    let to-kind = to-held ++ (kind ∷ []) in
+    let kind-end : length to-kind ≡ 110 = simp length-append (omega arith) in
+    let len-over = set-over front o 35 end o len (omega arith) (front-over o 35 (omega arith)) in
+    let held-over = paste-over to-len o 36 len-end _ held s len-over q in
+    let kind-over = set-over to-held o 109 held-end s kind (omega arith) held-over in
+    let place-over = set-over to-kind o 110 kind-end _ place (omega arith) kind-over in
+    let parts : to-kind ++ (place ∷ []) ≡ front ++ progressBytes len held erase = simp append-assoc (rw (ek, ep)) in
+    behind-front o (progressBytes len held erase) _ 35 (omega arith) (place-over ∙ rw parts)
 
-  module _ (t : List ℕ) (q : t ≡ textBytes (b .serial)) where
-    serial-over : putMid 1 17 (set o 0 (b .id)) t ≡ over to-serial o
-    serial-over = mid-over (b .id ∷ []) o 1 refl _ (textBytes (b .serial)) t 17 (omega (arith, z .serial)) (first-over o (b .id) (omega arith)) q
-
-    pub serial-room : length (putMid 1 17 (set o 0 (b .id)) t) ≡ 111
-    serial-room = ap length serial-over ∙ over-length to-serial o 18 serial-end (omega arith) ∙ size
-
-    module _ (u : List ℕ) (w : u ≡ textBytes (b .model)) where
-      model-over : putMid 18 17 (putMid 1 17 (set o 0 (b .id)) t) u ≡ over to-model o
-      model-over = mid-over to-serial o 18 serial-end _ (textBytes (b .model)) u 17 (omega (arith, z .model)) serial-over w
-
-      pub model-room : length (putMid 18 17 (putMid 1 17 (set o 0 (b .id)) t) u) ≡ 111
-      model-room = ap length model-over ∙ over-length to-model o 35 model-end (omega arith) ∙ size
-
-      module _ (h : List ℕ) (p : h ≡ paste (set (putMid 18 17 (putMid 1 17 (set o 0 (b .id)) t) u) 35 (b .len)) 36 (b .held) (length (b .held))) where
-        held-over : h ≡ over to-held o
-        held-over = paste-over to-len o 36 len-end _ (b .held) h (set-over to-model o 35 model-end _ (b .len) (omega arith) model-over) p
-
-        pub held-room : length h ≡ 111
-        held-room = ap length held-over ∙ over-length to-held o 109 held-end (omega arith) ∙ size
-
-        pub board-put : (k place : ℕ) → k ≡ eraseKind (b .erase) → place ≡ erasePlace (b .erase) → set (set h 109 k) 110 place ≡ bytesOf b
-        unfolding bytesOf
-        board-put k place ek ep =
-            let to-kind = to-held ++ (k ∷ []) in
-            let to-place = to-kind ++ (place ∷ []) in
-            let kind-end : length to-kind ≡ 110 = simp length-append (omega (arith, held-end)) in
-            let place-end : length to-place ≡ length o = simp length-append (omega (arith, held-end)) in
-            let kind-over = set-over to-held o 109 held-end h k (omega arith) held-over in
-            let place-over = set-over to-kind o 110 kind-end _ place (omega arith) kind-over in
-            place-over ∙ over-all to-place o place-end ∙ parts (b .id) (textBytes (b .serial)) (textBytes (b .model)) (b .len) (b .held) k place ∙ rw (ek, ep)
+pub board-put : (b : Board) (o s r : List ℕ) → s ≡ over (identityBytes (b .id) (b .serial) (b .model)) o
+    → r ≡ paste s 35 (progressBytes (b .len) (b .held) (b .erase)) (length (progressBytes (b .len) (b .held) (b .erase))) → length o ≡ 111
+    → Sized b → r ≡ stateBytes b
+unfolding stateBytes
+board-put b o s r q w size z =
+    let front = identityBytes (b .id) (b .serial) (b .model) in
+    let rest = progressBytes (b .len) (b .held) (b .erase) in
+    let end : length front ≡ 35 = simp length-append (omega (arith, z .serial, z .model)) in
+    let all : length (front ++ rest) ≡ length o = simp length-append (omega (arith, z .serial, z .model, z .held)) in
+    paste-over front o 35 end s rest r q w ∙ over-all (front ++ rest) o all ∙ simp append-assoc
 
 -- ---- a board read
 
-text-first : (s : List ℕ) → textIn (take 17 s) ≡ textIn s
+text-first : (s : List ℕ) → itemIn (take 17 s) ≡ itemIn s
 text-first [] = refl
 text-first (b ∷ bs) = rw (take-take 16 16 bs (omega arith))
 
-pub board-read : (s : List ℕ) (serial model : Text) (h : List ℕ) (e : Erase) → length s ≡ 111
-    → serial ≡ textIn (take 17 (drop 1 s)) → model ≡ textIn (take 17 (drop 18 s))
+pub item-read : (s bytes : List ℕ) → bytes ≡ paste (replicate 16 0) 0 (take 16 (drop 1 s)) (length (take 16 (drop 1 s))) → length s ≡ 17
+    → record { bytes = bytes; count = getD s 0 0 } ≡ itemIn s
+item-read s bytes e size =
+    let l : length (take 16 (drop 1 s)) ≡ 16 = simp (length-take, length-drop) (omega arith) in
+    rw (e ∙ copy-all (replicate 16 0) (take 16 (drop 1 s)) (sym l))
+
+pub board-read : (s : List ℕ) (serial model : ItemBytes) (h : List ℕ) (e : Erase) → length s ≡ 111
+    → serial ≡ itemIn (take 17 (drop 1 s)) → model ≡ itemIn (take 17 (drop 18 s))
     → h ≡ paste (replicate 73 0) 0 (take 73 (drop 36 s)) (length (take 73 (drop 36 s))) → e ≡ eraseIn (getD s 109 0) (getD s 110 0)
     → record { id = getD s 0 0; serial = serial; model = model; held = h; len = getD s 35 0; erase = e } ≡ boardIn s
 unfolding boardIn
 board-read s serial model h e size qs qm qh qe =
     let l : length (take 73 (drop 36 s)) ≡ 73 = simp (length-take, length-drop) (omega arith) in
-    rw (eq-eqb (length s) 111 size, qs, qm, text-first (drop 1 s), text-first (drop 18 s), qh ∙ copy-all (replicate 73 0) (take 73 (drop 36 s)) (sym l), qe)
+    let held : h ≡ take 73 (drop 36 s) = qh ∙ copy-all (replicate 73 0) (take 73 (drop 36 s)) (sym l) in
+    rw (eq-eqb (length s) 111 size, qs, qm, text-first (drop 1 s), text-first (drop 18 s), held, qe)
 
 -- ---- what was written is read
 
-erase-back : (e : Erase) → eraseIn (eraseKind e) (erasePlace e) ≡ e
+erase-back : (e : Erase) → eraseIn (eraseKind e) (placeOf (eraseOf e)) ≡ e
 unfolding eraseIn
 erase-back Erase.Idle = refl
 erase-back (Erase.Pending place false) = refl
 erase-back (Erase.Pending place true) = refl
 
-text-back : (t : Text) (s : List ℕ) → length (t .bytes) ≡ 16 → textIn (textBytes t ++ s) ≡ t
+text-back : (t : ItemBytes) (s : List ℕ) → length (t .bytes) ≡ 16 → itemIn (countedItem t ++ s) ≡ t
 text-back t s e = rw (take-at (t .bytes) s 16 e)
 
 module _ (b : Board) (z : Sized b) where
   abbrev erase-bytes : List ℕ
-  erase-bytes = eraseKind (b .erase) ∷ erasePlace (b .erase) ∷ []
+  erase-bytes = eraseKind (b .erase) ∷ placeOf (eraseOf (b .erase)) ∷ []
 
   abbrev from-len : List ℕ
   from-len = b .len ∷ (b .held ++ erase-bytes)
 
   abbrev from-model : List ℕ
-  from-model = textBytes (b .model) ++ from-len
+  from-model = countedItem (b .model) ++ from-len
 
-  pub size-of : length (bytesOf b) ≡ 111
-  unfolding bytesOf
+  pub size-of : length (stateBytes b) ≡ 111
+  unfolding stateBytes
   size-of = simp length-append (omega (arith, z .serial, z .model, z .held))
 
-  at-model : drop 18 (bytesOf b) ≡ from-model
-  unfolding bytesOf
+  at-model : drop 18 (stateBytes b) ≡ from-model
+  unfolding stateBytes
   at-model = drop-at (b .serial .bytes) from-model 16 (z .serial)
 
-  at-len : drop 35 (bytesOf b) ≡ from-len
-  at-len = sym (drop-drop 17 18 (bytesOf b)) ∙ ap (drop 17) at-model ∙ drop-at (b .model .bytes) from-len 16 (z .model)
+  at-len : drop 35 (stateBytes b) ≡ from-len
+  at-len = sym (drop-drop 17 18 (stateBytes b)) ∙ ap (drop 17) at-model ∙ drop-at (b .model .bytes) from-len 16 (z .model)
 
-  at-held : drop 36 (bytesOf b) ≡ b .held ++ erase-bytes
-  at-held = sym (drop-drop 1 35 (bytesOf b)) ∙ ap (drop 1) at-len
+  at-held : drop 36 (stateBytes b) ≡ b .held ++ erase-bytes
+  at-held = sym (drop-drop 1 35 (stateBytes b)) ∙ ap (drop 1) at-len
 
-  at-erase : drop 109 (bytesOf b) ≡ erase-bytes
-  at-erase = sym (drop-drop 73 36 (bytesOf b)) ∙ ap (drop 73) at-held ∙ drop-at (b .held) erase-bytes 73 (z .held)
+  at-erase : drop 109 (stateBytes b) ≡ erase-bytes
+  at-erase = sym (drop-drop 73 36 (stateBytes b)) ∙ ap (drop 73) at-held ∙ drop-at (b .held) erase-bytes 73 (z .held)
 
-  at-place : (n : ℕ) (s : List ℕ) → drop n (bytesOf b) ≡ s → (i : ℕ) → getD (bytesOf b) (n + i) 0 ≡ getD s i 0
-  at-place n s e i = sym (getD-drop n (bytesOf b) i 0) ∙ ap (λ (s : List ℕ). getD s i 0) e
+  at-place : (n : ℕ) (s : List ℕ) → drop n (stateBytes b) ≡ s → (i : ℕ) → getD (stateBytes b) (n + i) 0 ≡ getD s i 0
+  at-place n s e i = sym (getD-drop n (stateBytes b) i 0) ∙ ap (λ (s : List ℕ). getD s i 0) e
 
-  pub back : boardIn (bytesOf b) ≡ b
-  unfolding boardIn bytesOf
+  pub back : boardIn (stateBytes b) ≡ b
+  unfolding boardIn stateBytes
   back =
-      let serial : textIn (drop 1 (bytesOf b)) ≡ b .serial = text-back (b .serial) from-model (z .serial) in
-      let model : textIn (drop 18 (bytesOf b)) ≡ b .model = ap textIn at-model ∙ text-back (b .model) from-len (z .model) in
-      let held : take 73 (drop 36 (bytesOf b)) ≡ b .held = ap (take 73) at-held ∙ take-at (b .held) erase-bytes 73 (z .held) in
-      let len : getD (bytesOf b) 35 0 ≡ b .len = at-place 35 from-len at-len 0 in
-      let kind : getD (bytesOf b) 109 0 ≡ eraseKind (b .erase) = at-place 109 erase-bytes at-erase 0 in
-      let place : getD (bytesOf b) 110 0 ≡ erasePlace (b .erase) = at-place 109 erase-bytes at-erase 1 in
-      let pending : eraseIn (getD (bytesOf b) 109 0) (getD (bytesOf b) 110 0) ≡ b .erase = (λ j. eraseIn (kind j) (place j)) ∙ erase-back (b .erase) in
-      rw (eq-eqb (length (bytesOf b)) 111 size-of)
+      let serial : itemIn (drop 1 (stateBytes b)) ≡ b .serial = text-back (b .serial) from-model (z .serial) in
+      let model : itemIn (drop 18 (stateBytes b)) ≡ b .model = ap itemIn at-model ∙ text-back (b .model) from-len (z .model) in
+      let held : take 73 (drop 36 (stateBytes b)) ≡ b .held = ap (take 73) at-held ∙ take-at (b .held) erase-bytes 73 (z .held) in
+      let len : getD (stateBytes b) 35 0 ≡ b .len = at-place 35 from-len at-len 0 in
+      let kind : getD (stateBytes b) 109 0 ≡ eraseKind (b .erase) = at-place 109 erase-bytes at-erase 0 in
+      let place : getD (stateBytes b) 110 0 ≡ placeOf (eraseOf (b .erase)) = at-place 109 erase-bytes at-erase 1 in
+      let pending : eraseIn (getD (stateBytes b) 109 0) (getD (stateBytes b) 110 0) ≡ b .erase =
+      (λ j. eraseIn (kind j) (place j)) ∙ erase-back (b .erase) in
+      rw (eq-eqb (length (stateBytes b)) 111 size-of)
       (λ j. record { id = b .id; serial = serial j; model = model j; held = held j; len = len j; erase = pending j })

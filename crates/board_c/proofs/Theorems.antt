@@ -5,24 +5,25 @@ use mathlib.Core.List.{List}
 use mathlib.Core.Path.{_≡_, refl}
 use borrow.Author.Tests.{ne-eqb}
 use lib.ListN.{length}
-use Rattle.erase.specs.Calls.{isShort, refuse, onCall, onStep}
+use Rattle.calls.specs.Calls.{isShort, refuse, onCall, onStep}
 use Rattle.packets.specs.Packets.{isIdentity}
-use Rattle.board.specs.Calls.{Call, lends, thisBoard}
+use Rattle.board.specs.BoardKind.{Call, lends, boardKind}
 use Rattle.board.specs.View.{stateOf, noBoard}
 use Rattle.board.specs.declared.board.Board.{Board}
 use Rattle.board.proofs.StartLaws.{no-id, unnamed-call-refused, unnamed-step-refused}
-use Rattle.board_c.specs.State.{boardIn, bytesOf, stateIn}
+use Rattle.board_c.specs.State.{boardIn, stateBytes, stateIn}
 use Rattle.board_c.proofs.StateLaws.{back}
 
-pub board-back : (b : Board) → length (b .serial .bytes) ≡ 16 → length (b .model .bytes) ≡ 16 → length (b .held) ≡ 73 → boardIn (bytesOf b) ≡ b
+pub board-back : (b : Board) → length (b .serial .bytes) ≡ 16 → length (b .model .bytes) ≡ 16 → length (b .held) ≡ 73 → boardIn (stateBytes b) ≡ b
 board-back b serial model held = back b (record { serial = serial; model = model; held = held })
 
 -- ---- a buffer of another size
 
 -- what a call and a step give on it: 10 for a short buffer, else 12, and nothing changes
 pub record OtherSize (s : List ℕ) : Type 0 where
-  pub called : (c : Call) (m lent : List ℕ) → onCall thisBoard c (stateIn s) m lent ≡ refuse thisBoard (cond (lends c && isShort lent) 10 12) (stateIn s) lent
-  pub stepped : (m lent : List ℕ) → onStep thisBoard (stateIn s) m lent ≡ refuse thisBoard (cond (isShort lent) 10 12) (stateIn s) lent
+  pub called : (c : Call) (m lent : List ℕ)
+      → onCall boardKind c (stateIn s) m lent ≡ refuse boardKind (cond (lends c && isShort lent) 10 12) (stateIn s) lent
+  pub stepped : (m lent : List ℕ) → onStep boardKind (stateIn s) m lent ≡ refuse boardKind (cond (isShort lent) 10 12) (stateIn s) lent
 
 no-board : (s : List ℕ) → (length s ≡ 111 → ⊥) → boardIn s ≡ noBoard
 unfolding boardIn

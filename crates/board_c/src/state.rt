@@ -1,12 +1,16 @@
-// A board's state as bytes, in a layout that nobody outside may count on.
+// A board's state as bytes, in a layout that is promised to no caller.
 ghost use mathlib.Core.Path.{_≡_};
+ghost use Prim.Native.Nat.{_+_, _≤_};
 ghost use lib.ListN.{length};
-ghost use Rattle.board_c.specs.State.{boardIn, eraseIn, bytesOf, eraseKind, erasePlace, textIn, textBytes};
-ghost use Rattle.board.specs.View.{noBoard};
+ghost use lib.Seq.{paste};
+ghost use Rattle.wire.specs.Packet.{over};
+ghost use Rattle.board_c.specs.State.{boardIn, eraseIn, stateBytes, eraseKind, itemIn, countedItem};
+ghost use Rattle.board_c.specs.Inner.{identityBytes, progressBytes};
 use board::board::Board;
 use board::board::Erase;
-use store::contents::Text;
+use store::contents::ItemBytes;
 use wire::digits;
+use wire::packet;
 
 // How many bytes a state has.
 pub const SIZE: usize = 111;
@@ -16,11 +20,11 @@ pub fn board_in(state: &[u8]) -> Board
     ensures { λ r. ⌜ r ≡ boardIn (now (state .entry)) ⌝ }
 {
     if state.len() != SIZE {
-        return no_board();
+        return board::board::no_board();
     }
-    let serial = text_in(&state[1..18]);
-    let model = text_in(&state[18..35]);
-    let mut held = [0u8; 73];
+    let serial = item_in(&state[1..18]);
+    let model = item_in(&state[18..35]);
+    let mut held = [0u8; packet::MOST_PACKET];
     digits::put_bytes(&mut held, 0, &state[36..109]);
     Board {
         id: state[0],
@@ -35,41 +39,58 @@ pub fn board_in(state: &[u8]) -> Board
 // Writes a board's state.
 pub fn put_board(board: Board, state: &mut [u8])
     requires { ⌜ length (now state) ≡ 111 ⌝ }
-    ensures { λ _. ⌜ now (state .exit) ≡ bytesOf board ⌝ }
+    ensures { λ _. ⌜ now (state .exit) ≡ stateBytes board ⌝ }
 {
     let serial = board.serial;
     let model = board.model;
+    put_identity(board.id, serial, model, state);
     let held = board.held;
     let erase = board.erase;
-    state[0] = board.id;
-    put_text(serial, &mut state[1..18]);
-    put_text(model, &mut state[18..35]);
-    state[35] = board.len;
-    digits::put_bytes(state, 36, &held);
-    state[109] = erase_kind(erase);
-    state[110] = erase_place(erase);
+    put_progress(board.len, held, erase, state);
 }
 
-// A text of a count and 16 bytes.
-fn text_in(bytes: &[u8]) -> Text
+// Writes ID, serial number and model at the start of a state.
+fn put_identity(id: u8, serial: ItemBytes, model: ItemBytes, state: &mut [u8])
+    requires { ⌜ length (now state) ≡ 111 ⌝ }
+    ensures { λ _. ⌜ now (state .exit) ≡ over (identityBytes id serial model) (now (state .entry)) ⌝ }
+{
+    state[0] = id;
+    put_item(serial, state, 1);
+    put_item(model, state, 18);
+}
+
+// Writes the held bytes behind their count, and the erase, at the end of a state.
+fn put_progress(len: u8, held: [u8; packet::MOST_PACKET], erase: Erase, state: &mut [u8])
+    requires { ⌜ length (now state) ≡ 111 ⌝ }
+    ensures { λ _. ⌜ now (state .exit) ≡ paste (now (state .entry)) 35 (progressBytes len held erase) (length (progressBytes len held erase)) ⌝ }
+{
+    state[35] = len;
+    digits::put_bytes(state, 36, &held);
+    state[109] = erase_kind(erase);
+    state[110] = erase.place();
+}
+
+// The bytes of an item, behind their count.
+fn item_in(bytes: &[u8]) -> ItemBytes
     requires { ⌜ length (now bytes) ≡ 17 ⌝ }
-    ensures { λ r. ⌜ r ≡ textIn (now (bytes .entry)) ⌝ }
+    ensures { λ r. ⌜ r ≡ itemIn (now (bytes .entry)) ⌝ }
 {
     let mut all = [0u8; 16];
     digits::put_bytes(&mut all, 0, &bytes[1..17]);
-    Text {
+    ItemBytes {
         bytes: all,
         count: bytes[0],
     }
 }
 
-fn put_text(text: Text, out: &mut [u8])
-    requires { ⌜ length (now out) ≡ 17 ⌝ }
-    ensures { λ _. ⌜ now (out .exit) ≡ textBytes text ⌝ }
+// Writes the bytes of an item behind their count, from a place on.
+fn put_item(item: ItemBytes, out: &mut [u8], at: usize)
+    requires { ⌜ at + 17 ≤ length (now out) ⌝ }
+    ensures { λ _. ⌜ now (out .exit) ≡ paste (now (out .entry)) at (countedItem item) (length (countedItem item)) ⌝ }
 {
-    let bytes = text.bytes;
-    out[0] = text.count;
-    digits::put_bytes(out, 1, &bytes);
+    let bytes = item.bytes;
+    out[at] = item.count;
+    digits::put_bytes(out, at + 1, &bytes);
 }
 
 fn erase_in(kind: u8, place: u8) -> Erase
@@ -97,31 +118,4 @@ fn erase_kind(erase: Erase) -> u8
         return 2;
     }
     1
-}
-
-fn erase_place(erase: Erase) -> u8
-    ensures { λ r. ⌜ r ≡ erasePlace erase ⌝ }
-{
-    let Erase::Pending(place, _) = erase else {
-        return 0;
-    };
-    place
-}
-
-// No board: a value that every call refuses.
-fn no_board() -> Board
-    ensures { λ r. ⌜ r ≡ noBoard ⌝ }
-{
-    let none = Text {
-        bytes: [0u8; 16],
-        count: 0,
-    };
-    Board {
-        id: 0,
-        serial: none,
-        model: none,
-        held: [0u8; 73],
-        len: 0,
-        erase: Erase::Idle,
-    }
 }

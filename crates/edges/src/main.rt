@@ -1,10 +1,9 @@
 // Edges of the rules: each case a line with its name, then what an unused board answers.
 ghost use Prim.Native.Nat.{_<_};
 ghost use lib.ListN.{length};
-use board::board as calls;
 use board::board::Answer;
 use board::board::Board;
-use board::board::Verdict;
+use board::board::StartAnswer;
 use store::fields;
 use transcript::feed;
 use wire::digits;
@@ -70,7 +69,7 @@ fn check_codes() {
 fn places() {
     let mut store = fields::unused();
     let mut reply = [0u8; 64];
-    let started = calls::start(&mut store, 1, b"", b"");
+    let started = board::board::start(&mut store, 1, b"", b"");
     let first = started.board;
     let asked = after_bytes(
         first,
@@ -99,7 +98,7 @@ fn show(name: &[u8], id: u8, bytes: &[u8]) {
     let mut store = fields::unused();
     let mut reply = [0u8; 64];
     let mut out = [0u8; 512];
-    let started = calls::start(&mut store, id, b"", b"");
+    let started = board::board::start(&mut store, id, b"", b"");
     let board = started.board;
     show_lines(board, &mut store, bytes, &mut reply, &mut out);
 }
@@ -191,13 +190,13 @@ fn show_digits(n: u8) {
 // A start on an unused store: whether it is refused, and its number.
 fn start_shown(serial: &[u8]) {
     let mut store = fields::unused();
-    let started = calls::start(&mut store, 1, serial, b"");
-    let verdict = started.verdict;
-    match verdict {
-        Verdict::Ready => {
+    let started = board::board::start(&mut store, 1, serial, b"");
+    let answer = started.answer;
+    match answer {
+        StartAnswer::Ready => {
             io::write_all(1, b"started\n");
         }
-        Verdict::Refused(refusal) => {
+        StartAnswer::Refused(refusal) => {
             io::write_all(1, b"refused ");
             io::print_decimal(1, refusal.number() as u64);
             io::write_all(1, b"\n");

@@ -6,18 +6,18 @@ use Prim.Native.Nat.{ℕ}
 use native.Mathlib.Omega.{arith}
 use lib.Dec.{eqb}
 use lib.ListN.{length, getD}
-use Rattle.wire.specs.Packet.{textOf}
+use Rattle.wire.specs.Packet.{packetText}
 use Rattle.messages.specs.Message.Reply.{setReply}
 use Rattle.messages.specs.Read.{requestIn}
 use Rattle.receiver.specs.Receive as receive
-use Rattle.store.proofs.StoreLaws.{both}
-use Rattle.erase.specs.Board.{Identity, Answer, waiting, silent, begun, more, ended, refused, reply}
-use Rattle.erase.specs.Calls.{isSoundAs, isSound, refuse, onCall, onStep}
-use Rattle.erase.proofs.Steps.{Called, Stepped, refuses, clears, does, called, stepped, step-clears-or-ends}
+use Rattle.wire.proofs.Tests.{both}
+use Rattle.calls.specs.Board.{Identity, Answer, waiting, silent, begun, more, ended, refused, reply}
+use Rattle.calls.specs.Calls.{isSoundAs, isSound, refuse, onCall, onStep, clearStep, endStep}
+use Rattle.calls.proofs.Steps.{Called, Stepped, refuses, clears, does, called, stepped, step-clears-or-ends}
 use Rattle.actions.specs.Act.{Effect, replies, begins, effect}
-use Rattle.board.specs.Calls as board
+use Rattle.board.specs.BoardKind as board
 use Rattle.packets.specs.Packets.{BoardState, BoardOutcome, isIdentity, Addressee, own, all, another, addressee, toOwn, toAll, onPacketTo, onPacket}
-use Rattle.board.specs.Calls.{byte, onReceipt, eraseReply, lastAnswer, lastBuffer, thisBoard}
+use Rattle.board.specs.BoardKind.{byte, onReceipt, eraseReply, lastAnswer, lastBuffer, boardKind}
 use Rattle.packets.proofs.IdentityLaws.{Named, named-told}
 use Rattle.board.proofs.BoardLaws.{Resting, resting, whole-is}
 use Rattle.exchange.specs.Demand2.{InBytes, IsRead, RepliesTo}
@@ -36,7 +36,7 @@ Tells P (refused n) buffer = Unit {0}
 abbrev Leaves : (ℕ → List ℕ → Type 0) → BoardOutcome → Type 0
 Leaves P o = Tells P (o .answer) (o .buffer)
 
-refusal-leaves : (P : ℕ → List ℕ → Type 0) (n : ℕ) (s : BoardState) (lent : List ℕ) → Leaves P (refuse thisBoard n s lent)
+refusal-leaves : (P : ℕ → List ℕ → Type 0) (n : ℕ) (s : BoardState) (lent : List ℕ) → Leaves P (refuse boardKind n s lent)
 unfolding refuse
 refusal-leaves P n s lent = tt
 
@@ -48,49 +48,49 @@ module _ (s : BoardState) (m lent : List ℕ) (b : InBytes (s .ident) m) where
   Replying p n buffer = RepliesTo (s .ident) m p n lent buffer
 
   module _ (r : Resting (s .ident) (s .held) m) where
-    packet-replies : (p : List ℕ) (to : Addressee) (x : Effect) → effect (s .ident) m (requestIn (getD p 4 0) (textOf p)) ≡ x
+    packet-replies : (p : List ℕ) (to : Addressee) (x : Effect) → effect (s .ident) m (requestIn (getD p 4 0) (packetText p)) ≡ x
         → Leaves (Replying p) (onPacketTo to (s .ident) m p lent)
     unfolding onPacketTo toOwn toAll
     packet-replies p own (replies w es) is =
         let n = named-told (s .ident) (r .named) in
-        let sayable = effect-sayable (s .ident) m b n (r .ranged) (getD p 4 0) (textOf p) is in
+        let sayable = effect-sayable (s .ident) m b n (r .ranged) (getD p 4 0) (packetText p) is in
         rw is (record { said = w; stores = es; effected = is; intact = reply-is-read (s .ident) n w sayable lent })
     packet-replies p own begins is = rw is tt
     packet-replies p all (replies w es) is = rw is tt
     packet-replies p all begins is = rw is tt
     packet-replies p another x is = tt
 
-    receipt-replies : (p : List ℕ) (a : receive.Answer) (held : List ℕ) → ((q : List ℕ) → a ≡ receive.whole q → p ≡ q)
+    receipt-replies : (p : List ℕ) (a : receive.Reception) (held : List ℕ) → ((q : List ℕ) → a ≡ receive.whole q → p ≡ q)
         → Leaves (Replying p) (onReceipt a held (s .ident) m lent)
     unfolding onReceipt onPacket
     receipt-replies p receive.waiting held f = tt
     receipt-replies p (receive.refused n) held f = tt
-    receipt-replies p (receive.whole q) held f = rw (f q refl) (packet-replies q (addressee (s .ident) (getD q 2 0)) _ refl)
+    receipt-replies p (receive.whole q) held f = rw (f q refl) (packet-replies q (addressee (s .ident .id) (getD q 2 0)) _ refl)
 
     byte-replies : (x : ℕ) → Leaves (Replying (s .held ++ (x ∷ []))) (board.does (byte x) s m lent)
     unfolding board.does
     byte-replies x = receipt-replies (s .held ++ (x ∷ [])) _ _ (whole-is (s .held) x)
 
-pub replies-read : (b : ℕ) (s : BoardState) (m lent : List ℕ) (n : ℕ) → InBytes (s .ident) m → onCall thisBoard (byte b) s m lent .answer ≡ reply n
-    → RepliesTo (s .ident) m (s .held ++ (b ∷ [])) n lent (onCall thisBoard (byte b) s m lent .buffer)
+pub replies-read : (b : ℕ) (s : BoardState) (m lent : List ℕ) (n : ℕ) → InBytes (s .ident) m → onCall boardKind (byte b) s m lent .answer ≡ reply n
+    → RepliesTo (s .ident) m (s .held ++ (b ∷ [])) n lent (onCall boardKind (byte b) s m lent .buffer)
 replies-read b s m lent n h e =
-    subst (λ (a : Answer ℕ). Tells (Replying s m lent h p) a (onCall thisBoard (byte b) s m lent .buffer)) e (go (called thisBoard (byte b) s m lent))
+    subst (λ (a : Answer ℕ). Tells (Replying s m lent h p) a (onCall boardKind (byte b) s m lent .buffer)) e (go (called boardKind (byte b) s m lent))
   where
     p : List ℕ
     p = s .held ++ (b ∷ [])
 
-    go : Called thisBoard (byte b) s m lent (onCall thisBoard (byte b) s m lent) → Leaves (Replying s m lent h p) (onCall thisBoard (byte b) s m lent)
+    go : Called boardKind (byte b) s m lent (onCall boardKind (byte b) s m lent) → Leaves (Replying s m lent h p) (onCall boardKind (byte b) s m lent)
     go (refuses k q) = rw q (refusal-leaves (Replying s m lent h p) k s lent)
     go (does q t o) = rw o (byte-replies s m lent h (resting s m q t) b)
 
 -- ---- the last step of an erase
 
-sound-named : (s : BoardState) (m : List ℕ) → isSound thisBoard s m ≡ true → Named (s .ident)
+sound-named : (s : BoardState) (m : List ℕ) → isSound boardKind s m ≡ true → Named (s .ident)
 unfolding isSound
 sound-named s m h =
     named-told (s .ident)
     (both (isIdentity (s .ident)) (eqb (length m) 128)
-    (both (isIdentity (s .ident) && eqb (length m) 128) (isSoundAs thisBoard (s .erase) (s .held) m) h .0) .0)
+    (both (isIdentity (s .ident) && eqb (length m) 128) (isSoundAs boardKind (s .erase) (s .held) m) h .0) .0)
 
 -- the reply of the erase
 abbrev Ending : ℕ → List ℕ → ℕ → List ℕ → Type 0
@@ -103,14 +103,15 @@ last-replies i true lent n =
     (record { result = omega arith; page = omega arith; code = omega arith; operation = omega arith; largest = omega arith; value = omega arith }) lent
 last-replies i false lent n = tt
 
-pub erase-read : (s : BoardState) (m lent : List ℕ) (n : ℕ) → onStep thisBoard s m lent .answer ≡ reply n
-    → IsRead (s .ident .id) n (setReply 0 0xF0 0x01 1 1 1) lent (onStep thisBoard s m lent .buffer)
+pub erase-read : (s : BoardState) (m lent : List ℕ) (n : ℕ) → onStep boardKind s m lent .answer ≡ reply n
+    → IsRead (s .ident .id) n (setReply 0 0xF0 0x01 1 1 1) lent (onStep boardKind s m lent .buffer)
+unfolding clearStep endStep
 erase-read s m lent n e =
-    subst (λ (a : Answer ℕ). Tells (Ending (s .ident .id) lent) a (onStep thisBoard s m lent .buffer)) e (go (stepped thisBoard s m lent))
+    subst (λ (a : Answer ℕ). Tells (Ending (s .ident .id) lent) a (onStep boardKind s m lent .buffer)) e (go (stepped boardKind s m lent))
   where
-    go : Stepped thisBoard s m lent (onStep thisBoard s m lent) → Leaves (Ending (s .ident .id) lent) (onStep thisBoard s m lent)
+    go : Stepped boardKind s m lent (onStep boardKind s m lent) → Leaves (Ending (s .ident .id) lent) (onStep boardKind s m lent)
     go (refuses k q) = rw q (refusal-leaves (Ending (s .ident .id) lent) k s lent)
     go (clears p owed q h o) =
         rw o
-        (step-clears-or-ends thisBoard (Leaves (Ending (s .ident .id) lent)) p owed s lent (λ _. tt)
+        (step-clears-or-ends boardKind (Leaves (Ending (s .ident .id) lent)) p owed s lent (λ _. tt)
         (λ _. last-replies (s .ident) owed lent (sound-named s m h)))

@@ -5,15 +5,17 @@ use mathlib.Core.List.{List, [], _∷_}
 use mathlib.Core.Option.{Option, none, some}
 use Prim.Native.Nat.{ℕ, zero, suc, _+_, _-_, _≤_, _<_}
 use native.Mathlib.Omega.{arith}
-use lib.Dec.{leb, eqb}
+use lib.Dec.{leb, ltb, eqb}
 use lib.ListN.{length, getD, take, drop}
+use lib.Pow.{pow-mono}
 use lib.Seq.{getD-drop, drop-append-seam}
-use borrow.Author.Tests.{leb-true, le-leb, le-ltb, eq-eqb}
+use borrow.Author.Tests.{leb-true, ltb-true, le-leb, le-ltb, eq-eqb}
 use Rattle.plan.specs.Stores.{Entry}
 use Rattle.wire.specs.Digits.{Bytes}
 use Rattle.wire.specs.Packet.{addressOf, zeroByte, packet, replyPacket, over, size}
-use Rattle.wire.proofs.DigitLaws.{cond-by}
-use Rattle.wire.proofs.PacketLaws.{over-take, packet-length, size-packet, text-packet, packet-limits, packet-good}
+use Rattle.bitfield.proofs.Laws.{get-lt}
+use Rattle.wire.proofs.Tests.{cond-by}
+use Rattle.wire.proofs.PacketLaws.{over-take, packet-length, size-packet, text-packet, packet-limits, packet-returns, packet-checks, packet-message}
 use Rattle.messages.specs.Message.{Request, Reply, IsRequest, IsReply, isPowerMode}
 use Rattle.messages.specs.Message.Request.{getParameter, setParameter, powerRead, powerControl, dateRead, dateWrite, itemRead, tagWrite}
 use Rattle.messages.specs.Message.Reply.{null, getReply, setReply, powerReadReply, powerControlReply, dateReadReply, dateWriteReply, itemReply, tagWriteReply}
@@ -22,14 +24,15 @@ use Rattle.messages.specs.Read.{requestIn}
 use Rattle.messages.specs.declared.message.Item.{Item}
 use Rattle.messages.proofs.ParseLaws.{Found, request-fits}
 use Rattle.messages.proofs.RoundTrips.{reply-back, reply-length}
-use Rattle.store.specs.Layout.{Field, fields, read, year, month, day, weekday, hour, minute, tagLength, formerLength, fieldsInRange}
-use Rattle.store.specs.Settings.{rowOf, fieldOf, settingAt, accepts, shown, current}
+use Rattle.store.specs.Fields.{Field, read}
+use Rattle.store.specs.Layout.{year, month, day, weekday, hour, minute, tagLength, formerLength, tagPlace, formerTagPlace, fieldsInRange}
+use Rattle.store.specs.Settings.{Listed, fieldOf, settingAt, accepts, shown, current}
 use Rattle.store.specs.Contents.{isOn, dateOf, isAccepted, tagOf, formerTagOf}
-use Rattle.store.specs.declared.settings.Setting.{Setting}
-use Rattle.store.proofs.StoreLaws.{isField, each-one}
-use Rattle.store.proofs.SettingLaws.{setting-field}
+use Rattle.store.specs.declared.settings.Values.{Values}
+use Rattle.store.specs.declared.settings.Row.{Row}
+use Rattle.store.proofs.SettingLaws.{each-setting, row-in-store, setting-listed}
 use Rattle.store.proofs.FieldLaws.{get-byte}
-use Rattle.erase.specs.Board.{Identity}
+use Rattle.calls.specs.Board.{Identity}
 use Rattle.actions.specs.Act.{
   Effect,
   replies,
@@ -49,41 +52,32 @@ use Rattle.actions.specs.Act.{
 use Rattle.packets.specs.Packets.{replyWith, replyFrom}
 use Rattle.packets.proofs.IdentityLaws.{Named}
 use Rattle.packets.proofs.ReplyLaws.{item-few, reply-size}
-use Rattle.station.specs.Read.{isReplyType, isReplyHeader, isWholeLength, readPacket}
+use Rattle.station.specs.Read.{isReplyType, isReplyHeader, isWholeLength, replyInMessage, replyVerdict, readPacket}
 use Rattle.station.specs.Read as station
 use Rattle.exchange.specs.Demand2.{InBytes, IsRead}
 
 -- ---- what a store shows
 
--- no field is wider than a byte
-read-below : (m : List ℕ) (f : Field) → isField f ≡ true → read m f < 256
-read-below m f e = get-byte m (f .at) (f .width) (leb-true (f .width) 8 (each-one (λ f. leb (f .width) 8) fields f refl e)) refl
-
-shown-below : (s : Setting) (k : ℕ) → k < 256 → shown s k < 65536
-shown-below Setting.Backlight k h = omega arith
-shown-below Setting.Input k h =
+shown-below : (s : Values) (k : ℕ) → k < 65536 → shown s k < 65536
+shown-below (Values.Range least most) k h = h
+shown-below Values.Inputs k h =
     cond-by (λ (v : ℕ). v < 65536) (eqb k 0) _ _ (λ _. omega arith)
     (λ _. cond-by (λ (v : ℕ). v < 65536) (eqb k 1) _ _ (λ _. omega arith) (λ _. omega arith))
-shown-below Setting.Balance k h = omega arith
-shown-below Setting.PipH k h = omega arith
-shown-below Setting.PipV k h = omega arith
-shown-below Setting.AmbientLow k h = omega arith
-shown-below Setting.AmbientHigh k h = omega arith
-shown-below Setting.Tile k h = omega arith
 
-current-below : (m : List ℕ) (s : Setting) → current m s < 65536
+-- a setting's field has at most 16 bits
+current-below : (m : List ℕ) (r : Row) → Listed r → current m r < 65536
 unfolding current
-current-below m s = shown-below s (read m (fieldOf s)) (read-below m (fieldOf s) (setting-field s))
+current-below m r l =
+    let p = row-in-store r l in
+    let few : r .width ≤ 16 = omega arith in
+    shown-below (r .values) (read m (fieldOf r)) (omega (arith, get-lt m (r .at) (r .width), pow-mono few))
 
-largest-below : (s : Setting) → rowOf s .largest < 65536
-largest-below Setting.Backlight = omega arith
-largest-below Setting.Input = omega arith
-largest-below Setting.Balance = omega arith
-largest-below Setting.PipH = omega arith
-largest-below Setting.PipV = omega arith
-largest-below Setting.AmbientLow = omega arith
-largest-below Setting.AmbientHigh = omega arith
-largest-below Setting.Tile = omega arith
+largest-below : (r : Row) → Listed r → r .largest < 65536
+largest-below r l = ltb-true (r .largest) 65536 (each-setting (λ r. ltb (r .largest) 65536) r refl l)
+
+-- a field of at most 8 bits holds a byte
+read-below : (m : List ℕ) (f : Field) → leb (f .width) 8 ≡ true → read m f < 256
+read-below m f e = get-byte m (f .at) (f .width) (leb-true (f .width) 8 e) refl
 
 -- a part of bytes is bytes
 bytes-take : (n : ℕ) (s : List ℕ) → Bytes s → Bytes (take n s)
@@ -106,34 +100,36 @@ module _ (i : Identity) (m : List ℕ) (b : InBytes i m) (n : Named i) (ranged :
   unfolding tagOf formerTagOf
   item-bytes Item.Serial = b .serial
   item-bytes Item.Model = b .model
-  item-bytes Item.Tag = bytes-part (read m tagLength) 12 m (b .store)
-  item-bytes Item.FormerTag = bytes-part (read m formerLength) 28 m (b .store)
+  item-bytes Item.Tag = bytes-part (read m tagLength) tagPlace m (b .store)
+  item-bytes Item.FormerTag = bytes-part (read m formerLength) formerTagPlace m (b .store)
 
-  get-sayable : (page code : ℕ) → page < 256 → code < 256 → (s : Option Setting) → IsReply (getListed m page code s)
-  get-sayable page code p c none =
+  get-sayable : (page code : ℕ) → page < 256 → code < 256 → (q : Option Row) → settingAt page code ≡ q → IsReply (getListed m page code q)
+  get-sayable page code p c none e =
       record { result = omega arith; page = p; code = c; operation = omega arith; largest = omega arith; value = omega arith }
-  get-sayable page code p c (some s) =
-      record { result = omega arith; page = p; code = c; operation = omega arith; largest = largest-below s; value = current-below m s }
+  get-sayable page code p c (some r) e =
+      let l = setting-listed page code r e in
+      record { result = omega arith; page = p; code = c; operation = omega arith; largest = largest-below r l; value = current-below m r l }
 
-  set-sayable : (page code v : ℕ) → page < 256 → code < 256 → v < 65536 → (s : Option Setting) → Sayable (setListed m page code v s)
-  set-sayable page code v p c w none =
+  set-sayable : (page code v : ℕ) → page < 256 → code < 256 → v < 65536 → (q : Option Row) → settingAt page code ≡ q → Sayable (setListed m page code v q)
+  set-sayable page code v p c w none e =
       record { result = omega arith; page = p; code = c; operation = omega arith; largest = omega arith; value = w }
-  set-sayable page code v p c w (some s) =
-      cond-by Sayable (isOn m && accepts s v) _ _
-      (λ _. record { result = omega arith; page = p; code = c; operation = omega arith; largest = largest-below s; value = w })
-      (λ _. record { result = omega arith; page = p; code = c; operation = omega arith; largest = largest-below s; value = w })
+  set-sayable page code v p c w (some r) e =
+      let l = largest-below r (setting-listed page code r e) in
+      cond-by Sayable (isOn m && accepts (r .values) v) _ _
+      (λ _. record { result = omega arith; page = p; code = c; operation = omega arith; largest = l; value = w })
+      (λ _. record { result = omega arith; page = p; code = c; operation = omega arith; largest = l; value = w })
 
   request-sayable : (r : Request) → IsRequest r → Sayable (effectOf i m r)
   unfolding effectOf getEffect setEffect powerReadEffect powerControlEffect dateWriteEffect dateOf
   request-sayable (getParameter page code) h =
       cond-by IsReply (isErase page code) _ _
       (λ _. record { result = omega arith; page = h .0; code = h .1; operation = omega arith; largest = omega arith; value = omega arith })
-      (λ _. get-sayable page code (h .0) (h .1) (settingAt page code))
+      (λ _. get-sayable page code (h .0) (h .1) (settingAt page code) refl)
   request-sayable (setParameter page code v) h =
       cond-by Sayable (isErase page code) _ _
       (λ _. cond-by Sayable (eqb v 1) _ _ (λ _. tt)
       (λ _. record { result = omega arith; page = h .0; code = h .1; operation = omega arith; largest = omega arith; value = h .2 }))
-      (λ _. set-sayable page code v (h .0) (h .1) (h .2) (settingAt page code))
+      (λ _. set-sayable page code v (h .0) (h .1) (h .2) (settingAt page code) refl)
   request-sayable powerRead h = (omega arith, cond-by (λ (mode : ℕ). isPowerMode mode ≡ true) (isOn m) 1 4 (λ _. refl) (λ _. refl))
   request-sayable (powerControl mode) h =
       cond-by Sayable (eqb mode 1) _ _ (λ _. (omega arith, h))
@@ -197,7 +193,7 @@ module _ (i : Identity) (n : Named i) (kind : ℕ) (text : List ℕ) where
 
 module _ (i : Identity) (n : Named i) (r : Reply) (h : IsReply r) where
   reply-read : readPacket (replyFrom i r) ≡ station.reply (i .id) r
-  unfolding readPacket replyWith
+  unfolding readPacket replyVerdict replyInMessage replyWith
   reply-read =
       let a = addressOf (i .id) in
       let kind = replyType r in
@@ -207,7 +203,9 @@ module _ (i : Identity) (n : Named i) (r : Reply) (h : IsReply r) where
         le-ltb (length (replyPacket a kind text)) 13 (omega (arith, packet-length zeroByte a kind text)),
         sent-header i n kind text (reply-type r),
         sent-whole i n kind text (l .0) (l .1),
-        packet-good zeroByte a kind text (l .1),
+        packet-returns zeroByte a kind text (l .1),
+        packet-checks zeroByte a kind text (l .1),
+        packet-message zeroByte a kind text (l .1),
         sent-source i n kind text,
         sent-kind i n kind text,
         text-packet zeroByte a kind text (l .1),

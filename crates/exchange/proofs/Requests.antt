@@ -8,19 +8,19 @@ use native.Mathlib.Omega.{arith}
 use borrow.Author.Tests.{eq-eqb, ne-eqb}
 use lib.Dec.{ltb, leb}
 use lib.ListN.{length, getD}
-use Rattle.wire.specs.Packet.{addressOf, allAddress, zeroByte, packet, requestPacket, textOf}
-use Rattle.wire.proofs.DigitLaws.{cond-by}
+use Rattle.wire.specs.Packet.{addressOf, allAddress, zeroByte, packet, requestPacket, packetText}
+use Rattle.wire.proofs.Tests.{cond-by}
 use Rattle.wire.proofs.PacketLaws.{packet-length, text-packet}
 use Rattle.messages.specs.Message.{Request, IsRequest}
 use Rattle.messages.specs.Text.{requestType, requestText}
 use Rattle.messages.specs.Read.{requestIn}
 use Rattle.messages.proofs.RoundTrips.{request-back, request-type, request-length}
-use Rattle.erase.specs.Board.{Identity}
-use Rattle.erase.specs.Lists.{run}
+use Rattle.calls.specs.Board.{Identity}
+use Rattle.calls.specs.Lists.{run}
 use Rattle.actions.specs.Act.{effectOf, effect}
-use Rattle.board.specs.Fed.{fed, waits, seenThen}
+use Rattle.board.specs.Fed.{byteCalls, waits, seenThen}
 use Rattle.packets.specs.Packets.{BoardState, addressee, onPacketTo, onPacket}
-use Rattle.board.specs.Calls.{thisBoard}
+use Rattle.board.specs.BoardKind.{boardKind}
 use Rattle.board.specs.Demand3.{Events}
 use Rattle.board.proofs.PacketFed.{packet-fed}
 use Rattle.station.specs.Encode.{Encoding, sends, refused, addressIn, encodingTo, encodingOf, encoding}
@@ -54,7 +54,7 @@ module _ (i : Identity) (m lent : List ℕ) (r : Request) (h : IsRequest r) wher
   abbrev packetTo : ℕ → List ℕ
   packetTo a = requestPacket a (requestType r) (requestText r)
 
-  effect-back : (a : ℕ) → effect i m (requestIn (getD (packetTo a) 4 0) (textOf (packetTo a))) ≡ effectOf i m r
+  effect-back : (a : ℕ) → effect i m (requestIn (getD (packetTo a) 4 0) (packetText (packetTo a))) ≡ effectOf i m r
   unfolding packet
   effect-back a = rw (text-packet a zeroByte (requestType r) (requestText r) (request-length r h .1), request-back r h)
 
@@ -71,7 +71,7 @@ module _ (i : Identity) (m lent : List ℕ) (r : Request) (h : IsRequest r) wher
 
 module _ (dest : Destination) (r : Request) (s : BoardState) (m : List ℕ) (lent : ℕ → List ℕ) (es : Events) where
   abbrev Does : List ℕ → Type 0
-  Does p = run thisBoard (s .ident) s m (fed lent 0 p ++ es)
+  Does p = run boardKind (s .ident) s m (byteCalls lent 0 p ++ es)
       ≡ waits lent m 0 (length p - 1) ++ seenThen (s .ident) m (done dest (s .ident) m r (lent (length p - 1))) es
 
   packet-does : (a : ℕ) → IsRequest r → addressIn dest ≡ some a → Idle s m → Addresses dest (s .ident) → ((k : ℕ) → 64 ≤ length (lent k))
@@ -85,7 +85,7 @@ module _ (dest : Destination) (r : Request) (s : BoardState) (m : List ℕ) (len
 pub requests : (dest : Destination) (r : Request) (room : ℕ) (p : List ℕ) → IsRequest r → encoding room dest r ≡ sends p
     → (s : BoardState) (m : List ℕ) → Idle s m → Addresses dest (s .ident)
     → (lent : ℕ → List ℕ) → ((k : ℕ) → 64 ≤ length (lent k)) → (es : Events)
-    → run thisBoard (s .ident) s m (fed lent 0 p ++ es)
+    → run boardKind (s .ident) s m (byteCalls lent 0 p ++ es)
     ≡ waits lent m 0 (length p - 1) ++ seenThen (s .ident) m (done dest (s .ident) m r (lent (length p - 1))) es
 requests dest r room p h e s m idle to lent big es =
     let x = sent (requestType r) (requestText r) p room dest _ e in

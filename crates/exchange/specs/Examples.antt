@@ -1,4 +1,4 @@
--- The worked examples P1 to P11 (document 01, 'Lessons with numbers') as one list: what the encoder writes, what a board in a named
+-- The worked examples P1 to P11 (docs/RULES.md, 'Worked examples') as one list: what the encoder writes, what a board in a named
 -- state replies and stores, and the unused bytes. ID 1, but for the Get sent to ID 8, whose check code is CR.
 use mathlib.Core.Bool.{true}
 use mathlib.Core.List.{List, [], _∷_, _++_}
@@ -8,15 +8,15 @@ use lib.ListN.{length, take, drop, set}
 use Rattle.wire.specs.Packet.{over}
 use Rattle.messages.specs.Message.{Request}
 use Rattle.messages.specs.Message.Request.{getParameter, setParameter, powerControl}
-use Rattle.erase.specs.Board.{Identity, reply, idle, pending}
-use Rattle.erase.specs.Lists.{step, answered, run}
+use Rattle.calls.specs.Board.{Identity, reply, idle, pending}
+use Rattle.calls.specs.Lists.{step, answered, run}
 use Rattle.store.specs.Layout.{unusedStore}
 use Rattle.packets.specs.Packets.{BoardState}
-use Rattle.board.specs.Calls.{thisBoard}
+use Rattle.board.specs.BoardKind.{boardKind}
 use Rattle.board.specs.Demand3.{unusedBytes}
 use Rattle.station.specs.Encode.{sends, encoding}
 use Rattle.station.specs.declared.encode.Destination.{Destination}
-use Rattle.board.specs.Fed.{fed, waits}
+use Rattle.board.specs.Fed.{byteCalls, waits}
 
 -- ID 1, serial number and model empty
 abbrev pub one : Identity
@@ -26,8 +26,8 @@ abbrev pub resting : BoardState
 resting = record { ident = one; held = []; erase = idle }
 
 -- all steps but the last have run, and the reply is owed
-abbrev pub lastStep : BoardState
-lastStep = record { ident = one; held = []; erase = pending 128 true }
+abbrev pub atLastPlace : BoardState
+atLastPlace = record { ident = one; held = []; erase = pending 128 true }
 
 pub data Example : Type 0 where
   -- the encoder writes these bytes
@@ -43,11 +43,11 @@ abbrev pub Holds : Example → Type 0
 Holds (writes dest r bytes) = (room : ℕ) → 64 ≤ room → encoding room dest r ≡ sends bytes
 Holds (replies store packet bytes left) =
     (lent : ℕ → List ℕ) → ((k : ℕ) → 64 ≤ length (lent k))
-    → run thisBoard one resting store (fed lent 0 packet)
+    → run boardKind one resting store (byteCalls lent 0 packet)
     ≡ waits lent store 0 (length packet - 1) ++ (answered (reply (length bytes)) (over bytes (lent (length packet - 1))) left ∷ [])
 Holds (erases bytes) =
     (lent : List ℕ) → 64 ≤ length lent
-    → run thisBoard one lastStep (set unusedBytes 0 0xE7) (step lent ∷ []) ≡ answered (reply (length bytes)) (over bytes lent) unusedBytes ∷ []
+    → run boardKind one atLastPlace (set unusedBytes 0 0xE7) (step lent ∷ []) ≡ answered (reply (length bytes)) (over bytes lent) unusedBytes ∷ []
 Holds (stores bytes) = take 11 (drop 1 unusedStore) ≡ bytes
 
 unfoldable pub AllHold : List Example → Type 0

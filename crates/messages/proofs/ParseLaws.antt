@@ -6,11 +6,13 @@ use mathlib.Core.Option.{Option, none, some, bind, Option·map}
 use mathlib.Core.Path.{_≡_, refl}
 use lib.Dec.{eqb}
 use lib.ListN.{length, drop}
-use Rattle.wire.specs.Digits.{twoAt, fourAt, bytesOf}
-use Rattle.wire.proofs.DigitLaws.{cond-by, two-below, four-below, bytes-few, bytes-are-bytes}
+use Rattle.wire.specs.Digits.{twoAt, fourAt, octetsIn}
+use Rattle.wire.proofs.Tests.{cond-by}
+use Rattle.wire.proofs.DigitLaws.{two-below, four-below, bytes-few, bytes-are-bytes}
 use Rattle.messages.specs.Message.{IsDate, IsRequest}
 use Rattle.messages.specs.Message.Request.{dateWrite, tagWrite}
-use Rattle.messages.specs.Text.{typeA, typeC, typeE, powerReadName, powerControlName, dateReadName, dateWriteName, itemReadName, tagWriteName}
+use Rattle.messages.specs.Text.{powerReadName, powerControlName, dateReadName, dateWriteName, itemReadName, tagWriteName}
+use Rattle.wire.specs.Packet.{typeA, typeC, typeE}
 use Rattle.messages.specs.Read.{beginsWith, isName, dateIn, getIn, setIn, powerControlIn, commandIn, requestIn}
 use Rattle.messages.specs.declared.message.Item.{Item}
 
@@ -99,5 +101,5 @@ request-fits kind t =
     (test-found IsRequest (eqb kind typeE) _ _ (set-found t)
     (test-found IsRequest (eqb kind typeA) _ _
     (test-found IsRequest (beginsWith tagWriteName t) _ _
-    (map-found IsRequest tagWrite (bytesOf (drop 4 t)) (λ s e. record { few = bytes-few (drop 4 t) e; bytes = bytes-are-bytes (drop 4 t) e }))
+    (map-found IsRequest tagWrite (octetsIn (drop 4 t)) (λ s e. record { few = bytes-few (drop 4 t) e; bytes = bytes-are-bytes (drop 4 t) e }))
     (command-found t)) tt))

@@ -8,7 +8,7 @@ use native.Mathlib.Omega.{arith}
 use borrow.Author.Tests.{le-leb, eqb-true}
 use lib.Dec.{leb, eqb}
 use lib.ListN.{length}
-use Rattle.wire.specs.Digits.{digitOf, valueOf, join, two, hexOf, twoAt, fourAt, bytesOf}
+use Rattle.wire.specs.Digits.{digitOf, valueOf, join, two, hexOf, twoAt, fourAt, octetsIn}
 use Rattle.wire.specs.Judge.{isRequestType}
 use Rattle.wire.proofs.DigitLaws.{two-back, four-back, bytes-back, hex-length}
 use Rattle.messages.specs.Message.{Request, Reply, IsDate, IsItem, IsParameter, IsRequest, IsReply, isPowerMode}
@@ -75,7 +75,7 @@ date-back d h =
       two-back (d .daylight) (h .daylight),
     )
 
-item-back : (s : List ℕ) → IsItem s → bytesOf (hexOf s) ≡ some s
+item-back : (s : List ℕ) → IsItem s → octetsIn (hexOf s) ≡ some s
 item-back s h = bytes-back s (h .bytes) (h .few)
 
 parameter-back : (reply : ℕ → ℕ → ℕ → ℕ → ℕ → ℕ → Reply) (r p c o l v : ℕ) → IsParameter r p c o l v

@@ -5,9 +5,9 @@ use mathlib.Core.Path.{_≡_, sym}
 use native.Mathlib.Omega.{arith}
 use lib.ListN.{length, take}
 use lib.Seq.{length-take-le}
-use Rattle.wire.specs.Packet.{Fits}
+use Rattle.wire.specs.Inner.{Fits}
 use Rattle.wire.proofs.PacketLaws.{over-take, over-length}
-use Rattle.messages.specs.View.{Writes}
+use Rattle.messages.specs.Inner.{Writes}
 use Rattle.messages.specs.declared.write.Written.{Written}
 
 -- a text that a packet of at most 64 bytes can hold

@@ -7,7 +7,7 @@ use lib.ListN.{length, take, length-append, take-append-drop}
 use lib.Seq.{paste, length-take-le}
 use Rattle.wire.specs.Packet.{over}
 use Rattle.wire.proofs.PacketLaws.{over-paste}
-use Rattle.messages.specs.View.{Writes, Beside}
+use Rattle.messages.specs.Inner.{Writes, Beside}
 
 -- the parts of a text as one
 abbrev pub joined : List (List ℕ) → List ℕ

@@ -2,3 +2,4 @@ pub mod Message
 pub mod Text
 pub mod Read
 pub mod View
+pub mod Inner

@@ -1,5 +1,5 @@
--- Messages (document 01, 'What a good packet does'): the requests and replies of the message table as values.
--- Results, statuses, operation types and modes are document 01's numbers; serial number, model and tags are lists of bytes.
+-- Messages (docs/RULES.md, 'What a good packet does'): the requests and replies of the message table as values.
+-- Results, statuses, operation types and modes are the rules' numbers; serial number, model and tags are lists of bytes.
 use mathlib.Core.Bool.{Bool, true, _||_}
 use mathlib.Core.List.{List}
 use mathlib.Core.Path.{_≡_}

@@ -1,4 +1,4 @@
--- What a text says (document 01, 'What a good packet does' and 'Station'): the request that a board finds in it, and the reply that
+-- What a text says (docs/RULES.md, 'What a good packet does', AC10, and 'Station', RD2): the request that a board finds in it, and the reply that
 -- the station finds in it. Type and text select together; the length is exact; fields are taken apart in their order, and the first
 -- that fails ends it. None: anything else, which a board answers with NULL and the station refuses with 35.
 use mathlib.Core.Bool.{Bool, true, false, cond, _&&_}
@@ -7,11 +7,11 @@ use mathlib.Core.Option.{Option, none, some, bind, Option·map}
 use Prim.Native.Nat.{ℕ}
 use lib.Dec.{leb, eqb}
 use lib.ListN.{length, drop}
-use Rattle.wire.specs.Digits.{twoAt, fourAt, bytesOf}
+use Rattle.wire.specs.Digits.{twoAt, fourAt, octetsIn}
 use Rattle.messages.specs.Message.{Request, Reply, isPowerMode}
 use Rattle.messages.specs.Message.Request.{getParameter, setParameter, powerRead, powerControl, dateRead, dateWrite, itemRead, tagWrite}
 use Rattle.messages.specs.Message.Reply.{null, getReply, setReply, powerReadReply, powerControlReply, dateReadReply, dateWriteReply, itemReply, tagWriteReply}
-use Rattle.messages.specs.Text.{typeA, typeB, typeC, typeD, typeE, typeF}
+use Rattle.wire.specs.Packet.{typeA, typeB, typeC, typeD, typeE, typeF}
 use Rattle.messages.specs.Text.{powerReadName, powerControlName, powerReadReplyName, powerReadReplyFixed, dateReadName, dateReadReplyName}
 use Rattle.messages.specs.Text.{dateWriteName, dateWriteReplyName, itemReadName, itemReplyName, tagWriteName, tagWriteReplyName, nullName}
 use Rattle.messages.specs.declared.message.Date.{Date}
@@ -76,6 +76,12 @@ setIn t =
 unfoldable pub powerControlIn : List ℕ → Option Request
 powerControlIn t = cond (eqb (length t) 4) (bind (fourAt t 0) λ mode. some (powerControl mode)) none
 
+-- a value behind the name
+abbrev pub valueCommandIn : List ℕ → Option Request
+valueCommandIn t =
+    cond (beginsWith powerControlName t) (powerControlIn (drop 6 t))
+    (cond (beginsWith dateWriteName t) (Option·map dateWrite (dateIn (drop 4 t))) none)
+
 -- type A, but for the tag write
 unfoldable pub commandIn : List ℕ → Option Request
 commandIn t =
@@ -84,9 +90,7 @@ commandIn t =
     (cond (isName (itemReadName Item.Serial) t) (some (itemRead Item.Serial))
     (cond (isName (itemReadName Item.Model) t) (some (itemRead Item.Model))
     (cond (isName (itemReadName Item.Tag) t) (some (itemRead Item.Tag))
-    (cond (isName (itemReadName Item.FormerTag) t) (some (itemRead Item.FormerTag))
-    (cond (beginsWith powerControlName t) (powerControlIn (drop 6 t))
-    (cond (beginsWith dateWriteName t) (Option·map dateWrite (dateIn (drop 4 t))) none)))))))
+    (cond (isName (itemReadName Item.FormerTag) t) (some (itemRead Item.FormerTag)) (valueCommandIn t))))))
 
 -- the request in a text of a type
 unfoldable pub requestIn : ℕ → List ℕ → Option Request
@@ -94,22 +98,26 @@ requestIn kind t =
     cond (eqb kind typeC) (getIn t)
     (cond (eqb kind typeE) (setIn t)
     (cond (eqb kind typeA)
-    (cond (beginsWith tagWriteName t) (Option·map tagWrite (bytesOf (drop 4 t))) (commandIn t))
+    (cond (beginsWith tagWriteName t) (Option·map tagWrite (octetsIn (drop 4 t))) (commandIn t))
     none))
 
 -- ---- replies
 
--- types D and F: result, page, code, operation type, max, value
+-- types D and F: result, page, code; then operation type, max, value
+abbrev pub valuesIn : (ℕ → ℕ → ℕ → ℕ → ℕ → ℕ → Reply) → ℕ → ℕ → ℕ → List ℕ → Option Reply
+valuesIn reply result page code t =
+    bind (flagAt t 6) λ operation.
+    bind (fourAt t 8) λ largest.
+    bind (fourAt t 12) λ value.
+    some (reply result page code operation largest value)
+
 unfoldable pub parameterIn : (ℕ → ℕ → ℕ → ℕ → ℕ → ℕ → Reply) → List ℕ → Option Reply
 parameterIn reply t =
     cond (eqb (length t) 16)
     (bind (flagAt t 0) λ result.
     bind (twoAt t 2) λ page.
     bind (twoAt t 4) λ code.
-    bind (flagAt t 6) λ operation.
-    bind (fourAt t 8) λ largest.
-    bind (fourAt t 12) λ value.
-    some (reply result page code operation largest value))
+    valuesIn reply result page code t)
     none
 
 -- behind 02: status, D6 00 0004, mode
@@ -140,7 +148,7 @@ dateWriteReplyIn t = cond (eqb (length t) 16) (bind (flagAt t 0) λ status. Opti
 
 -- behind F111: status, the tag
 unfoldable pub tagWriteReplyIn : List ℕ → Option Reply
-tagWriteReplyIn t = cond (leb 2 (length t)) (bind (flagAt t 0) λ status. Option·map (tagWriteReply status) (bytesOf (drop 2 t))) none
+tagWriteReplyIn t = cond (leb 2 (length t)) (bind (flagAt t 0) λ status. Option·map (tagWriteReply status) (octetsIn (drop 2 t))) none
 
 -- type B, replies without bytes of a serial number, a model or a tag
 unfoldable pub plainReplyIn : List ℕ → Option Reply
@@ -154,10 +162,10 @@ plainReplyIn t =
 -- type B
 unfoldable pub commandReplyIn : List ℕ → Option Reply
 commandReplyIn t =
-    cond (beginsWith (itemReplyName Item.Serial) t) (Option·map (itemReply Item.Serial) (bytesOf (drop 4 t)))
-    (cond (beginsWith (itemReplyName Item.Model) t) (Option·map (itemReply Item.Model) (bytesOf (drop 4 t)))
-    (cond (beginsWith (itemReplyName Item.Tag) t) (Option·map (itemReply Item.Tag) (bytesOf (drop 4 t)))
-    (cond (beginsWith (itemReplyName Item.FormerTag) t) (Option·map (itemReply Item.FormerTag) (bytesOf (drop 4 t)))
+    cond (beginsWith (itemReplyName Item.Serial) t) (Option·map (itemReply Item.Serial) (octetsIn (drop 4 t)))
+    (cond (beginsWith (itemReplyName Item.Model) t) (Option·map (itemReply Item.Model) (octetsIn (drop 4 t)))
+    (cond (beginsWith (itemReplyName Item.Tag) t) (Option·map (itemReply Item.Tag) (octetsIn (drop 4 t)))
+    (cond (beginsWith (itemReplyName Item.FormerTag) t) (Option·map (itemReply Item.FormerTag) (octetsIn (drop 4 t)))
     (cond (beginsWith tagWriteReplyName t) (tagWriteReplyIn (drop 4 t)) (plainReplyIn t)))))
 
 -- the reply in a text of a type

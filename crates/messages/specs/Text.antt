@@ -1,32 +1,14 @@
--- The texts of messages (document 01, the message table), between STX and ETX, each with its type.
+-- The texts of messages (docs/RULES.md, the message table in 'What a good packet does'), between STX and ETX, each with its type.
 -- Names such as C211 are bytes of their own; numbers are digits.
 use mathlib.Core.List.{List, [], _∷_, _++_}
 use Prim.Native.Nat.{ℕ}
 use Rattle.wire.specs.Digits.{two, four, hexOf}
+use Rattle.wire.specs.Packet.{typeA, typeB, typeC, typeD, typeE, typeF}
 use Rattle.messages.specs.Message.{Request, Reply}
 use Rattle.messages.specs.Message.Request.{getParameter, setParameter, powerRead, powerControl, dateRead, dateWrite, itemRead, tagWrite}
 use Rattle.messages.specs.Message.Reply.{null, getReply, setReply, powerReadReply, powerControlReply, dateReadReply, dateWriteReply, itemReply, tagWriteReply}
 use Rattle.messages.specs.declared.message.Date.{Date}
 use Rattle.messages.specs.declared.message.Item.{Item}
-
--- the types: command and its reply, Get and its reply, Set and its reply
-abbrev pub typeA : ℕ
-typeA = 0x41
-
-abbrev pub typeB : ℕ
-typeB = 0x42
-
-abbrev pub typeC : ℕ
-typeC = 0x43
-
-abbrev pub typeD : ℕ
-typeD = 0x44
-
-abbrev pub typeE : ℕ
-typeE = 0x45
-
-abbrev pub typeF : ℕ
-typeF = 0x46
 
 -- ---- names
 

@@ -1,24 +1,20 @@
--- What the code's values mean: the requests and replies that its enums stand for, with document 01's number for each case.
+-- What the code's values mean (docs/RULES.md, CA1): the requests and replies that its enums stand for, with the rules' number for each case.
 -- Bytes of a serial number, a model or a tag stand in an array beside the enum, as many as the enum counts.
 use mathlib.Core.List.{List}
-use mathlib.Core.Path.{_≡_}
-use Prim.Native.Nat.{ℕ, _≤_}
-use lib.ListN.{length, take}
-use Rattle.wire.specs.Packet.{over}
+use Prim.Native.Nat.{ℕ}
+use lib.ListN.{take}
 use Rattle.messages.specs.Message as message
 use Rattle.messages.specs.declared.message.Date.{Date}
-use Rattle.messages.specs.declared.message.Outcome.{Outcome}
+use Rattle.messages.specs.declared.message.Status.{Status}
 use Rattle.messages.specs.declared.message.PowerMode.{PowerMode}
 use Rattle.messages.specs.declared.message.DateAnswer.{DateAnswer}
-use Rattle.messages.specs.declared.message.Parameter.{Parameter}
 use Rattle.messages.specs.declared.message.Request.{Request}
 use Rattle.messages.specs.declared.message.Reply.{Reply}
-use Rattle.messages.specs.declared.write.Written.{Written}
 
 -- a result or a status
-abbrev pub outcomeNumber : Outcome → ℕ
-outcomeNumber Outcome.Acknowledged = 0
-outcomeNumber Outcome.Refused = 1
+abbrev pub statusNumber : Status → ℕ
+statusNumber Status.Acknowledged = 0
+statusNumber Status.Refused = 1
 
 abbrev pub modeNumber : PowerMode → ℕ
 modeNumber PowerMode.On = 1
@@ -37,48 +33,16 @@ requestOf (Request.TagWrite count) bytes = message.tagWrite (take count bytes)
 
 abbrev pub dateAnswerOf : DateAnswer → message.Reply
 dateAnswerOf (DateAnswer.Read d) = message.dateReadReply d
-dateAnswerOf (DateAnswer.Written o d) = message.dateWriteReply (outcomeNumber o) d
+dateAnswerOf (DateAnswer.Written o d) = message.dateWriteReply (statusNumber o) d
 
 abbrev pub replyOf : Reply → List ℕ → message.Reply
 replyOf Reply.Null bytes = message.null
 replyOf (Reply.Got o p) bytes =
-    message.getReply (outcomeNumber o) (p .page) (p .code) (p .operation) (p .largest) (p .value)
+    message.getReply (statusNumber o) (p .page) (p .code) (p .operation) (p .largest) (p .value)
 replyOf (Reply.Set o p) bytes =
-    message.setReply (outcomeNumber o) (p .page) (p .code) (p .operation) (p .largest) (p .value)
-replyOf (Reply.PowerStatus o m) bytes = message.powerReadReply (outcomeNumber o) (modeNumber m)
-replyOf (Reply.PowerControl o mode) bytes = message.powerControlReply (outcomeNumber o) mode
+    message.setReply (statusNumber o) (p .page) (p .code) (p .operation) (p .largest) (p .value)
+replyOf (Reply.PowerStatus o m) bytes = message.powerReadReply (statusNumber o) (modeNumber m)
+replyOf (Reply.PowerControl o mode) bytes = message.powerControlReply (statusNumber o) mode
 replyOf (Reply.Date a) bytes = dateAnswerOf a
 replyOf (Reply.Item i count) bytes = message.itemReply i (take count bytes)
-replyOf (Reply.TagWritten o count) bytes = message.tagWriteReply (outcomeNumber o) (take count bytes)
-
--- how many bytes stand beside a request or a reply
-abbrev pub requestCount : Request → ℕ
-requestCount (Request.Get page code) = 0
-requestCount (Request.Set page code value) = 0
-requestCount Request.PowerRead = 0
-requestCount (Request.PowerControl mode) = 0
-requestCount Request.DateRead = 0
-requestCount (Request.DateWrite d) = 0
-requestCount (Request.ItemRead i) = 0
-requestCount (Request.TagWrite count) = count
-
-abbrev pub replyCount : Reply → ℕ
-replyCount Reply.Null = 0
-replyCount (Reply.Got o p) = 0
-replyCount (Reply.Set o p) = 0
-replyCount (Reply.PowerStatus o m) = 0
-replyCount (Reply.PowerControl o mode) = 0
-replyCount (Reply.Date a) = 0
-replyCount (Reply.Item i count) = count
-replyCount (Reply.TagWritten o count) = count
-
--- bytes that are there, and that travel
-pub record Beside (count : ℕ) (bytes : List ℕ) : Type 0 where
-  pub few : count ≤ 16
-  pub there : count ≤ length bytes
-
--- a text of a type, written at the start of a buffer
-pub record Writes (type : ℕ) (text : List ℕ) (r : Written) (before after : List ℕ) : Type 0 where
-  pub kind : r .kind ≡ type
-  pub count : r .length ≡ length text
-  pub buffer : after ≡ over text before
+replyOf (Reply.TagWritten o count) bytes = message.tagWriteReply (statusNumber o) (take count bytes)

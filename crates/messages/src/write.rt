@@ -2,20 +2,23 @@
 ghost use mathlib.Core.List.{_++_};
 ghost use mathlib.Core.Path.{_≡_};
 ghost use Prim.Native.Nat.{_+_, _≤_};
-ghost use lib.ListN.{length, take};
+ghost use lib.ListN.{length};
 ghost use lib.Seq.{paste};
 ghost use Rattle.wire.specs.Digits.{two, four, hexOf};
-ghost use Rattle.messages.specs.Text.{typeA, typeB, typeC, typeE, powerControlName, powerReadReplyName, powerReadReplyFixed, dateWriteReplyName, tagWriteReplyName, itemReadName, itemReplyName, dateText, parameterText, requestType, requestText, replyType, replyText};
-ghost use Rattle.messages.specs.View.{requestOf, replyOf, requestCount, replyCount, Beside, Writes, outcomeNumber, modeNumber, dateAnswerOf};
+ghost use Rattle.messages.specs.Text.{powerControlName, powerReadReplyName, powerReadReplyFixed, dateWriteReplyName, tagWriteReplyName, itemReadName, itemReplyName, dateText, parameterText, requestType, requestText, replyType, replyText};
+ghost use Rattle.wire.specs.Packet.{typeA, typeB, typeC, typeE};
+ghost use Rattle.messages.specs.View.{requestOf, replyOf, statusNumber, modeNumber, dateAnswerOf};
+ghost use Rattle.messages.specs.Inner.{requestCount, replyCount, Beside, Writes};
 use crate::message::Date;
 use crate::message::DateAnswer;
 use crate::message::Item;
-use crate::message::Outcome;
 use crate::message::Parameter;
 use crate::message::PowerMode;
 use crate::message::Reply;
 use crate::message::Request;
+use crate::message::Status;
 use wire::digits;
+use wire::packet;
 
 // The type of a message and the length of its text.
 pub struct Written {
@@ -36,24 +39,24 @@ pub fn request_text(request: Request, bytes: &[u8], text: &mut [u8; 62]) -> Writ
             return put_set(page, code, value, text);
         }
         Request::PowerRead => {
-            return put_name(0x41, b"01D6", text);
+            return put_name(packet::TYPE_A, b"01D6", text);
         }
         Request::PowerControl(mode) => {
             return put_power_control(mode, text);
         }
         Request::DateRead => {
-            return put_name(0x41, b"C211", text);
+            return put_name(packet::TYPE_A, b"C211", text);
         }
         Request::DateWrite(date) => {
-            return put_named_date(0x41, b"C212", date, text);
+            return put_named_date(packet::TYPE_A, b"C212", date, text);
         }
         Request::ItemRead(item) => {
             let name = item_read_name(item);
-            return put_name(0x41, &name, text);
+            return put_name(packet::TYPE_A, &name, text);
         }
         Request::TagWrite(count) => {
             let n = count as usize;
-            return put_named_bytes(0x41, b"F011", &bytes[..n], text);
+            return put_named_bytes(packet::TYPE_A, b"F011", &bytes[..n], text);
         }
     }
 }
@@ -65,19 +68,19 @@ pub fn reply_text(reply: Reply, bytes: &[u8], text: &mut [u8; 62]) -> Written
 {
     match reply {
         Reply::Null => {
-            return put_name(0x42, b"BE", text);
+            return put_name(packet::TYPE_B, b"BE", text);
         }
-        Reply::Got(outcome, parameter) => {
-            return put_parameter(0x44, outcome, parameter, text);
+        Reply::Got(status, parameter) => {
+            return put_parameter(packet::TYPE_D, status, parameter, text);
         }
-        Reply::Set(outcome, parameter) => {
-            return put_parameter(0x46, outcome, parameter, text);
+        Reply::Set(status, parameter) => {
+            return put_parameter(packet::TYPE_F, status, parameter, text);
         }
-        Reply::PowerStatus(outcome, mode) => {
-            return put_power_read_reply(outcome, mode, text);
+        Reply::PowerStatus(status, mode) => {
+            return put_power_read_reply(status, mode, text);
         }
-        Reply::PowerControl(outcome, mode) => {
-            return put_power_control_reply(outcome, mode, text);
+        Reply::PowerControl(status, mode) => {
+            return put_power_control_reply(status, mode, text);
         }
         Reply::Date(answer) => {
             return put_date_reply(answer, text);
@@ -85,11 +88,11 @@ pub fn reply_text(reply: Reply, bytes: &[u8], text: &mut [u8; 62]) -> Written
         Reply::Item(item, count) => {
             let n = count as usize;
             let name = item_reply_name(item);
-            return put_named_bytes(0x42, &name, &bytes[..n], text);
+            return put_named_bytes(packet::TYPE_B, &name, &bytes[..n], text);
         }
-        Reply::TagWritten(outcome, count) => {
+        Reply::TagWritten(status, count) => {
             let n = count as usize;
-            return put_tag_write_reply(outcome, &bytes[..n], text);
+            return put_tag_write_reply(status, &bytes[..n], text);
         }
     }
 }
@@ -135,7 +138,7 @@ fn put_get(page: u8, code: u8, text: &mut [u8; 62]) -> Written
     digits::put_two(text, 0, page);
     digits::put_two(text, 2, code);
     Written {
-        kind: 0x43,
+        kind: packet::TYPE_C,
         length: 4,
     }
 }
@@ -148,16 +151,16 @@ fn put_set(page: u8, code: u8, value: u16, text: &mut [u8; 62]) -> Written
     digits::put_two(text, 2, code);
     digits::put_four(text, 4, value);
     Written {
-        kind: 0x45,
+        kind: packet::TYPE_E,
         length: 8,
     }
 }
 
 // Result, page, code, operation type, max and value.
-fn put_parameter(kind: u8, outcome: Outcome, parameter: Parameter, text: &mut [u8; 62]) -> Written
-    ensures { λ r. ⌜ Writes kind (parameterText (outcomeNumber outcome) (parameter .page) (parameter .code) (parameter .operation) (parameter .largest) (parameter .value)) r (now (text .entry)) (now (text .exit)) ⌝ }
+fn put_parameter(kind: u8, status: Status, parameter: Parameter, text: &mut [u8; 62]) -> Written
+    ensures { λ r. ⌜ Writes kind (parameterText (statusNumber status) (parameter .page) (parameter .code) (parameter .operation) (parameter .largest) (parameter .value)) r (now (text .entry)) (now (text .exit)) ⌝ }
 {
-    digits::put_two(text, 0, outcome_number(outcome));
+    digits::put_two(text, 0, status.number());
     digits::put_two(text, 2, parameter.page);
     digits::put_two(text, 4, parameter.code);
     digits::put_two(text, 6, parameter.operation);
@@ -173,34 +176,34 @@ fn put_power_control(mode: u16, text: &mut [u8; 62]) -> Written
     digits::put_bytes(text, 0, b"C203D6");
     digits::put_four(text, 6, mode);
     Written {
-        kind: 0x41,
+        kind: packet::TYPE_A,
         length: 10,
     }
 }
 
 // 02, status, D6, 00, 0004 and the mode.
-fn put_power_read_reply(outcome: Outcome, mode: PowerMode, text: &mut [u8; 62]) -> Written
-    ensures { λ r. ⌜ Writes typeB (powerReadReplyName ++ (two (outcomeNumber outcome) ++ (powerReadReplyFixed ++ four (modeNumber mode)))) r (now (text .entry)) (now (text .exit)) ⌝ }
+fn put_power_read_reply(status: Status, mode: PowerMode, text: &mut [u8; 62]) -> Written
+    ensures { λ r. ⌜ Writes typeB (powerReadReplyName ++ (two (statusNumber status) ++ (powerReadReplyFixed ++ four (modeNumber mode)))) r (now (text .entry)) (now (text .exit)) ⌝ }
 {
     digits::put_bytes(text, 0, b"02");
-    digits::put_two(text, 2, outcome_number(outcome));
+    digits::put_two(text, 2, status.number());
     digits::put_bytes(text, 4, b"D6000004");
-    digits::put_four(text, 12, mode_number(mode));
+    digits::put_four(text, 12, mode.number());
     Written {
-        kind: 0x42,
+        kind: packet::TYPE_B,
         length: 16,
     }
 }
 
 // Status, C203D6 and the mode.
-fn put_power_control_reply(outcome: Outcome, mode: u16, text: &mut [u8; 62]) -> Written
-    ensures { λ r. ⌜ Writes typeB (two (outcomeNumber outcome) ++ (powerControlName ++ four mode)) r (now (text .entry)) (now (text .exit)) ⌝ }
+fn put_power_control_reply(status: Status, mode: u16, text: &mut [u8; 62]) -> Written
+    ensures { λ r. ⌜ Writes typeB (two (statusNumber status) ++ (powerControlName ++ four mode)) r (now (text .entry)) (now (text .exit)) ⌝ }
 {
-    digits::put_two(text, 0, outcome_number(outcome));
+    digits::put_two(text, 0, status.number());
     digits::put_bytes(text, 2, b"C203D6");
     digits::put_four(text, 8, mode);
     Written {
-        kind: 0x42,
+        kind: packet::TYPE_B,
         length: 12,
     }
 }
@@ -211,37 +214,37 @@ fn put_date_reply(answer: DateAnswer, text: &mut [u8; 62]) -> Written
 {
     match answer {
         DateAnswer::Read(date) => {
-            return put_named_date(0x42, b"C311", date, text);
+            return put_named_date(packet::TYPE_B, b"C311", date, text);
         }
-        DateAnswer::Written(outcome, date) => {
-            return put_date_write_reply(outcome, date, text);
+        DateAnswer::Written(status, date) => {
+            return put_date_write_reply(status, date, text);
         }
     }
 }
 
 // C312, status and the date.
-fn put_date_write_reply(outcome: Outcome, date: Date, text: &mut [u8; 62]) -> Written
-    ensures { λ r. ⌜ Writes typeB (dateWriteReplyName ++ (two (outcomeNumber outcome) ++ dateText date)) r (now (text .entry)) (now (text .exit)) ⌝ }
+fn put_date_write_reply(status: Status, date: Date, text: &mut [u8; 62]) -> Written
+    ensures { λ r. ⌜ Writes typeB (dateWriteReplyName ++ (two (statusNumber status) ++ dateText date)) r (now (text .entry)) (now (text .exit)) ⌝ }
 {
     digits::put_bytes(text, 0, b"C312");
-    digits::put_two(text, 4, outcome_number(outcome));
+    digits::put_two(text, 4, status.number());
     put_date(date, 6, text);
     Written {
-        kind: 0x42,
+        kind: packet::TYPE_B,
         length: 20,
     }
 }
 
 // F111, status and the tag.
-fn put_tag_write_reply(outcome: Outcome, tag: &[u8], text: &mut [u8; 62]) -> Written
+fn put_tag_write_reply(status: Status, tag: &[u8], text: &mut [u8; 62]) -> Written
     requires { ⌜ length (now tag) ≤ 16 ⌝ }
-    ensures { λ r. ⌜ Writes typeB (tagWriteReplyName ++ (two (outcomeNumber outcome) ++ hexOf (now (tag .entry)))) r (now (text .entry)) (now (text .exit)) ⌝ }
+    ensures { λ r. ⌜ Writes typeB (tagWriteReplyName ++ (two (statusNumber status) ++ hexOf (now (tag .entry)))) r (now (text .entry)) (now (text .exit)) ⌝ }
 {
     digits::put_bytes(text, 0, b"F111");
-    digits::put_two(text, 4, outcome_number(outcome));
+    digits::put_two(text, 4, status.number());
     digits::put_hex(text, 6, tag);
     Written {
-        kind: 0x42,
+        kind: packet::TYPE_B,
         length: 6 + 2 * tag.len(),
     }
 }
@@ -279,24 +282,5 @@ fn item_reply_name(item: Item) -> [u8; 4]
         Item::Model => *b"C317",
         Item::Tag => *b"F110",
         Item::FormerTag => *b"F112",
-    }
-}
-
-fn outcome_number(outcome: Outcome) -> u8
-    ensures { λ r. ⌜ r ≡ outcomeNumber outcome ⌝ }
-{
-    match outcome {
-        Outcome::Acknowledged => 0,
-        Outcome::Refused => 1,
-    }
-}
-
-fn mode_number(mode: PowerMode) -> u16
-    ensures { λ r. ⌜ r ≡ modeNumber mode ⌝ }
-{
-    match mode {
-        PowerMode::On => 1,
-        PowerMode::Sleep => 2,
-        PowerMode::Standby => 4,
     }
 }

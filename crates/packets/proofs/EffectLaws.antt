@@ -1,30 +1,32 @@
 -- What a good packet stores, request by request, by the store's laws: few bytes, within the store, not the mark, and every field stays in range.
 use mathlib.Core.Path.{_≡_, refl, _∙_, subst}
 use mathlib.Core.Bool.{true, _&&_}
-use mathlib.Core.List.{List, [], _∷_}
+use mathlib.Core.List.{List, []}
 use mathlib.Core.Logic.{inl}
 use mathlib.Core.Option.{Option, none, some}
 use Prim.Native.Nat.{ℕ, _≤_}
 use native.Mathlib.Omega.{arith}
 use lib.Dec.{eqb}
 use lib.ListN.{length, getD}
-use Rattle.plan.specs.Stores.{Entry, applied, Within, Ready}
+use Rattle.plan.specs.Stores.{Entry, applied}
+use Rattle.plan.specs.Inner.{Within, Committable}
 use Rattle.plan.proofs.Laws.{applied-length}
-use Rattle.wire.proofs.DigitLaws.{cond-by}
+use Rattle.wire.proofs.Tests.{cond-by, both}
 use Rattle.messages.specs.Message.{Request, Reply, IsRequest}
 use Rattle.messages.specs.Message.Request.{getParameter, setParameter, powerRead, powerControl, dateRead, dateWrite, itemRead, tagWrite}
 use Rattle.messages.specs.Read.{requestIn}
 use Rattle.messages.proofs.ParseLaws.{Found, request-fits}
 use Rattle.messages.specs.declared.message.Date.{Date}
-use Rattle.store.specs.Layout.{Field, fits, power, fieldStores, fieldsInRange}
+use Rattle.store.specs.Fields.{Field, fits, fieldStores}
+use Rattle.store.specs.Layout.{power, fieldsInRange}
 use Rattle.store.specs.Settings.{fieldOf, settingAt, accepts, kept}
 use Rattle.store.specs.Contents.{isOn, isStorable, isAccepted, dateStores, tagStores}
-use Rattle.store.specs.declared.settings.Setting.{Setting}
-use Rattle.store.proofs.StoreLaws.{both, isField, field-keeps-mark, in-range-write, field-applied, field-few, field-within}
-use Rattle.store.proofs.SettingLaws.{setting-field, kept-fits}
+use Rattle.store.specs.declared.settings.Row.{Row}
+use Rattle.store.proofs.StoreLaws.{isField, field-placed, field-keeps-mark, in-range-write, field-applied, field-few, field-within}
+use Rattle.store.proofs.SettingLaws.{setting-listed, setting-field, kept-fits}
 use Rattle.store.proofs.DateLaws.{date-keeps-byte, in-range-date, date-applied, date-count, date-within}
 use Rattle.store.proofs.TagLaws.{tag-count, tag-within, tag-written, in-range-tag}
-use Rattle.erase.specs.Board.{Identity}
+use Rattle.calls.specs.Board.{Identity}
 use Rattle.actions.specs.Act.{
   Effect,
   replies,
@@ -77,17 +79,13 @@ request-few kind t = option-few (requestIn kind t) (request-fits kind t)
 
 -- entries that a plan and the store can take, that leave the mark, and every field in range
 pub record Keeps (m : List ℕ) (es : List Entry) : Type 0 where
-  pub ready : Ready 128 es
+  pub ready : Committable 128 es
   pub mark : getD (applied es m) 0 0 ≡ getD m 0 0
   pub ranged : fieldsInRange (applied es m) ≡ true
 
 abbrev pub Kept : List ℕ → Effect → Type 0
 Kept m (replies r es) = Keeps m es
 Kept m begins = Unit {0}
-
-within-head : (es : List Entry) → Within 12 es → Within 128 es
-within-head [] w = tt
-within-head (e ∷ es) w = (omega arith, within-head es (w .1))
 
 module _ (m : List ℕ) (size : length m ≡ 128) (ranged : fieldsInRange m ≡ true) where
   none-keeps : Keeps m []
@@ -96,9 +94,10 @@ module _ (m : List ℕ) (size : length m ≡ 128) (ranged : fieldsInRange m ≡ 
   -- one field
   field-keeps : (f : Field) (v : ℕ) → isField f ≡ true → fits f v ≡ true → Keeps m (fieldStores m f v)
   field-keeps f v e h =
-      let is = field-applied m f v e (omega arith) in
+      let is = field-applied m f v in
+      let p = field-placed f e in
       record {
-        ready = record { few = omega (arith, field-few m f v e); within = within-head (fieldStores m f v) (field-within m f v e) };
+        ready = record { few = omega (arith, field-few m f v e); within = field-within m f v e };
         mark = rw is (field-keeps-mark m f v e);
         ranged = rw is (in-range-write m f v e (omega arith) h ranged);
       }
@@ -106,10 +105,10 @@ module _ (m : List ℕ) (size : length m ≡ 128) (ranged : fieldsInRange m ≡ 
   date-keeps : (d : Date) → isAccepted d ≡ true → Keeps m (dateStores m d)
   unfolding isAccepted
   date-keeps d h =
-      let is = date-applied m d (omega arith) in
+      let is = date-applied m d in
       let storable = both (isStorable d) (eqb (d .daylight) 0) h .0 in
       record {
-        ready = record { few = omega (arith, date-count m d (omega arith)); within = within-head (dateStores m d) (date-within m d) };
+        ready = record { few = omega (arith, date-count m d (omega arith)); within = date-within m d };
         mark = rw is (date-keeps-byte m d 0 (inl (omega arith)));
         ranged = rw is (in-range-date m d (omega arith) storable ranged);
       }
@@ -122,18 +121,19 @@ module _ (m : List ℕ) (size : length m ≡ 128) (ranged : fieldsInRange m ≡ 
         ranged = in-range-tag m tag size h ranged;
       }
 
-  set-keeps : (page code v : ℕ) (s : Option Setting) → Kept m (setListed m page code v s)
-  set-keeps page code v none = none-keeps
-  set-keeps page code v (some s) =
-      cond-by (Kept m) (isOn m && accepts s v) _ _
-      (λ t. field-keeps (fieldOf s) (kept s v) (setting-field s) (kept-fits s v (both (isOn m) (accepts s v) t .1))) (λ _. none-keeps)
+  set-keeps : (page code v : ℕ) (q : Option Row) → settingAt page code ≡ q → Kept m (setListed m page code v q)
+  set-keeps page code v none e = none-keeps
+  set-keeps page code v (some r) e =
+      cond-by (Kept m) (isOn m && accepts (r .values) v) _ _
+      (λ t. field-keeps (fieldOf r) (kept (r .values) v) (setting-field r (setting-listed page code r e))
+      (kept-fits r v (both (isOn m) (accepts (r .values) v) t .1))) (λ _. none-keeps)
 
   request-keeps : (i : Identity) (r : Request) → FewIn r → Kept m (effectOf i m r)
   unfolding effectOf getEffect setEffect powerReadEffect powerControlEffect dateWriteEffect
   request-keeps i (getParameter page code) h = none-keeps
   request-keeps i (setParameter page code v) h =
       cond-by (Kept m) (isErase page code) _ _
-      (λ _. cond-by (Kept m) (eqb v 1) _ _ (λ _. tt) (λ _. none-keeps)) (λ _. set-keeps page code v (settingAt page code))
+      (λ _. cond-by (Kept m) (eqb v 1) _ _ (λ _. tt) (λ _. none-keeps)) (λ _. set-keeps page code v (settingAt page code) refl)
   request-keeps i powerRead h = none-keeps
   request-keeps i (powerControl mode) h =
       cond-by (Kept m) (eqb mode 1) _ _ (λ _. field-keeps power 1 refl refl)
@@ -154,7 +154,7 @@ module _ (i : Identity) (m : List ℕ) (kind : ℕ) (text : List ℕ) {r : Reply
   pub effect-keeps : Keeps m es
   effect-keeps = subst (Kept m) is (option-keeps m size ranged i (requestIn kind text) (request-few kind text))
 
-  pub effect-ready : Ready 128 es
+  pub effect-ready : Committable 128 es
   effect-ready = effect-keeps .ready
 
   pub effect-few : length es ≤ 40

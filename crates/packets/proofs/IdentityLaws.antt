@@ -5,8 +5,8 @@ use Prim.Native.Nat.{_≤_}
 use lib.Dec.{leb}
 use lib.ListN.{length}
 use borrow.Author.Tests.{leb-true}
-use Rattle.store.proofs.StoreLaws.{both}
-use Rattle.erase.specs.Board.{Identity}
+use Rattle.wire.proofs.Tests.{both}
+use Rattle.calls.specs.Board.{Identity}
 use Rattle.packets.specs.Packets.{isIdentity}
 
 pub record Named (i : Identity) : Type 0 where

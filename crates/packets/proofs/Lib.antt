@@ -1,6 +1,5 @@
 pub mod EffectLaws
 pub mod IdentityLaws
-pub mod PlanLaws
 pub mod DecisionLaws
 pub mod ReplyLaws
 pub mod SendLaws

@@ -12,19 +12,21 @@ use borrow.Author.Tests.{leb-true}
 use Rattle.plan.specs.Stores.{Entry}
 use Rattle.wire.specs.Packet.{addressOf, zeroByte, size}
 use Rattle.wire.specs.Digits.{hexOf}
-use Rattle.wire.proofs.DigitLaws.{cond-by, hex-length}
+use Rattle.wire.proofs.Tests.{cond-by, both}
+use Rattle.wire.proofs.DigitLaws.{hex-length}
 use Rattle.wire.proofs.PacketLaws.{packet-length, size-packet}
 use Rattle.messages.specs.Message.{Request, Reply}
 use Rattle.messages.specs.Message.Request.{getParameter, setParameter, powerRead, powerControl, dateRead, dateWrite, itemRead, tagWrite}
 use Rattle.messages.specs.Text.{dateText, parameterText, itemReplyName, replyType, replyText}
 use Rattle.messages.specs.Read.{requestIn}
 use Rattle.messages.specs.declared.message.Item.{Item}
-use Rattle.store.specs.Layout.{Field, read, fieldsInRange, tagLength, formerLength}
+use Rattle.store.specs.Fields.{Field, read}
+use Rattle.store.specs.Layout.{fieldsInRange, tagLength, formerLength, tagPlace, formerTagPlace}
 use Rattle.store.specs.Settings.{settingAt, accepts}
 use Rattle.store.specs.Contents.{isOn, isAccepted, tagOf, formerTagOf}
-use Rattle.store.specs.declared.settings.Setting.{Setting}
-use Rattle.store.proofs.StoreLaws.{both, isField, in-range-one}
-use Rattle.erase.specs.Board.{Identity}
+use Rattle.store.specs.declared.settings.Row.{Row}
+use Rattle.store.proofs.StoreLaws.{isField, in-range-one}
+use Rattle.calls.specs.Board.{Identity}
 use Rattle.actions.specs.Act.{
   Effect,
   replies,
@@ -84,18 +86,18 @@ module _ (i : Identity) (m : List ℕ) (n : Named i) (ranged : fieldsInRange m �
   unfolding tagOf formerTagOf
   item-few Item.Serial = n .serial
   item-few Item.Model = n .model
-  item-few Item.Tag = text-few m tagLength 12 refl refl ranged
-  item-few Item.FormerTag = text-few m formerLength 28 refl refl ranged
+  item-few Item.Tag = text-few m tagLength tagPlace refl refl ranged
+  item-few Item.FormerTag = text-few m formerLength formerTagPlace refl refl ranged
 
-  get-fits : (page code : ℕ) (s : Option Setting) → Fitting (getListed m page code s)
+  get-fits : (page code : ℕ) (q : Option Row) → Fitting (getListed m page code q)
   unfolding replyText parameterText
   get-fits page code none = omega arith
-  get-fits page code (some s) = omega arith
+  get-fits page code (some r) = omega arith
 
-  set-fits : (page code v : ℕ) (s : Option Setting) → Fits (setListed m page code v s)
+  set-fits : (page code v : ℕ) (q : Option Row) → Fits (setListed m page code v q)
   unfolding replyText parameterText
   set-fits page code v none = omega arith
-  set-fits page code v (some s) = cond-by Fits (isOn m && accepts s v) _ _ (λ _. omega arith) (λ _. omega arith)
+  set-fits page code v (some r) = cond-by Fits (isOn m && accepts (r .values) v) _ _ (λ _. omega arith) (λ _. omega arith)
 
   request-fits : (r : Request) → FewIn r → Fits (effectOf i m r)
   unfolding effectOf getEffect setEffect powerReadEffect powerControlEffect dateWriteEffect replyText parameterText dateText

@@ -1,24 +1,27 @@
 // What a good packet does to the store, and the reply that it gets.
-ghost use mathlib.Core.List.{List};
+ghost use mathlib.Core.List.{[]};
 ghost use mathlib.Core.Path.{_≡_};
-ghost use Prim.Native.Nat.{ℕ, _≤_};
+ghost use Prim.Native.Nat.{_≤_};
 ghost use lib.ListN.{length, getD, set, take};
-ghost use Rattle.wire.specs.Judge.{Whole};
-ghost use Rattle.wire.specs.Packet.{over, textOf};
-ghost use Rattle.messages.specs.View.{replyOf, replyCount};
+ghost use Rattle.wire.specs.Inner.{Whole};
+ghost use Rattle.wire.specs.Packet.{mostId, leastBuffer, over, packetText};
+ghost use Rattle.calls.specs.Calls.{eraseMark};
+ghost use Rattle.messages.specs.View.{replyOf};
+ghost use Rattle.messages.specs.Inner.{replyCount};
 ghost use Rattle.messages.specs.Read.{requestIn};
 ghost use Rattle.parser.specs.View.{parsed};
 ghost use Rattle.actions.specs.Act.{effect};
 ghost use Rattle.packets.specs.Packets.{replyWith, addressee, onPacket, toOwn, toAll};
 ghost use Rattle.actions.specs.View.{identityOf};
-ghost use Rattle.packets.specs.View.{addresseeOf, acted, result, Serving, Addressed};
+ghost use Rattle.packets.specs.View.{result};
+ghost use Rattle.packets.specs.Inner.{addresseeOf, acted, Serving, Addressed};
 use actions::Effect;
 use messages::message::Reply;
 use messages::write;
 use parser::parse;
 use parser::parse::ParsedRequest;
 use plan::Plan;
-use store::contents::Text;
+use store::contents::ItemBytes;
 use wire::packet;
 
 // Whom a destination addresses.
@@ -39,8 +42,8 @@ pub enum Acted {
 // A good packet: the first n bytes.
 pub fn on_packet(
     id: u8,
-    serial: Text,
-    model: Text,
+    serial: ItemBytes,
+    model: ItemBytes,
     bytes: &[u8],
     n: usize,
     store: &mut [u8],
@@ -68,20 +71,20 @@ pub fn on_packet(
 // The request in a packet.
 fn asked_in(packet: &[u8]) -> ParsedRequest
     requires { ⌜ Whole (now packet) ⌝ }
-    ensures { λ r. ⌜ parsed r ≡ requestIn (getD (now (packet .entry)) 4 0) (textOf (now (packet .entry))) ⌝ }
+    ensures { λ r. ⌜ parsed r ≡ requestIn (getD (now (packet .entry)) 4 0) (packetText (now (packet .entry))) ⌝ }
 {
     let end = packet.len() - 3;
     parse::parse_request(packet[4], &packet[8..end])
 }
 
 fn addressee_of(id: u8, dest: u8) -> Addressee
-    requires { ⌜ id ≤ 8 ⌝ }
-    ensures { λ r. ⌜ ((serial model : Text) → addresseeOf r ≡ addressee (identityOf id serial model) dest) ⌝ }
+    requires { ⌜ id ≤ mostId ⌝ }
+    ensures { λ r. ⌜ addresseeOf r ≡ addressee id dest ⌝ }
 {
-    if dest == 0x40 + id {
+    if dest == packet::ADDRESS_BASE + id {
         return Addressee::Own;
     }
-    if dest == 0x2A {
+    if dest == packet::ALL_ADDRESS {
         return Addressee::All;
     }
     Addressee::Another
@@ -90,8 +93,8 @@ fn addressee_of(id: u8, dest: u8) -> Addressee
 // For this board: stored and replied, or an erase begun that owes the reply.
 fn for_own(
     id: u8,
-    serial: Text,
-    model: Text,
+    serial: ItemBytes,
+    model: ItemBytes,
     asked: ParsedRequest,
     store: &mut [u8],
     reply: &mut [u8],
@@ -112,9 +115,15 @@ fn for_own(
 }
 
 // For all boards: stored in silence, or an erase begun that owes nothing.
-fn for_all(id: u8, serial: Text, model: Text, asked: ParsedRequest, store: &mut [u8]) -> Acted
+fn for_all(
+    id: u8,
+    serial: ItemBytes,
+    model: ItemBytes,
+    asked: ParsedRequest,
+    store: &mut [u8],
+) -> Acted
     requires { ⌜ Serving id serial model (now store) ⌝ }
-    ensures { λ r. ⌜ ((lent : List ℕ) → acted r (identityOf id serial model) (now (store .exit)) lent ≡ result (toAll (identityOf id serial model) (effect (identityOf id serial model) (now (store .entry)) (parsed asked)) lent) (now (store .entry))) ⌝ }
+    ensures { λ r. ⌜ acted r (identityOf id serial model) (now (store .exit)) [] ≡ result (toAll (identityOf id serial model) (effect (identityOf id serial model) (now (store .entry)) (parsed asked)) []) (now (store .entry)) ⌝ }
 {
     let decision = actions::decide(id, serial, model, asked, store);
     let effect = decision.effect;
@@ -127,22 +136,28 @@ fn for_all(id: u8, serial: Text, model: Text, asked: ParsedRequest, store: &mut 
     Acted::Silent
 }
 
-// E7h in byte 0.
+// The mark of a pending erase in byte 0.
 fn begin(store: &mut [u8])
     requires { ⌜ length (now store) ≡ 128 ⌝ }
-    ensures { λ _. ⌜ now (store .exit) ≡ set (now (store .entry)) 0 0xE7 ⌝ }
+    ensures { λ _. ⌜ now (store .exit) ≡ set (now (store .entry)) 0 eraseMark ⌝ }
 {
-    let plan = Plan::empty().with(0, 0xE7);
+    let plan = Plan::one(0, calls::ERASE_MARK);
     plan::commit(plan, store);
 }
 
 // Writes the packet of a reply from the board with an ID; its length.
 pub fn send(id: u8, answer: Reply, bytes: [u8; 16], out: &mut [u8]) -> usize
-    requires { ⌜ (id ≤ 8) × (replyCount answer ≤ 16) × (64 ≤ length (now out)) ⌝ }
+    requires { ⌜ (id ≤ mostId) × (replyCount answer ≤ 16) × (leastBuffer ≤ length (now out)) ⌝ }
     ensures { λ r. ⌜ (r ≡ length (replyWith id (replyOf answer bytes))) × (now (out .exit) ≡ over (replyWith id (replyOf answer bytes)) (now (out .entry))) ⌝ }
 {
     let mut text = [0u8; 62];
     let written = write::reply_text(answer, &bytes, &mut text);
     let n = written.length;
-    packet::put_packet(out, 0x30, 0x40 + id, written.kind, &text[..n])
+    packet::put_packet(
+        out,
+        packet::ZERO_BYTE,
+        packet::ADDRESS_BASE + id,
+        written.kind,
+        &text[..n],
+    )
 }

@@ -1,4 +1,4 @@
--- What the parser's answer means.
+-- What the parser's answer means (docs/RULES.md, 'What a good packet does', AC10): a request, or none.
 use mathlib.Core.List.{List}
 use mathlib.Core.Option.{Option, none, some}
 use Prim.Native.Nat.{ℕ}

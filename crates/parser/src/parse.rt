@@ -4,7 +4,7 @@ ghost use mathlib.Core.Option.{Option·map};
 ghost use mathlib.Core.Path.{_≡_};
 ghost use Prim.Native.Nat.{ℕ};
 ghost use Rattle.messages.specs.Message.Request.{dateWrite};
-ghost use Rattle.messages.specs.Read.{requestIn, commandIn, getIn, setIn, powerControlIn, dateIn};
+ghost use Rattle.messages.specs.Read.{requestIn, commandIn, getIn, setIn, powerControlIn, valueCommandIn, dateIn};
 ghost use Rattle.parser.specs.View.{parsed, parsedWith};
 use messages::message::Item;
 use messages::message::Request;
@@ -12,6 +12,7 @@ use text_fields::DateField;
 use wire::digits;
 use wire::digits::Octet;
 use wire::digits::Word;
+use wire::packet;
 
 // A request, or anything else.
 pub enum Parsed {
@@ -29,19 +30,19 @@ pub struct ParsedRequest {
 pub fn parse_request(kind: u8, text: &[u8]) -> ParsedRequest
     ensures { λ r. ⌜ parsed r ≡ requestIn kind (now (text .entry)) ⌝ }
 {
-    if kind == 0x43 {
+    if kind == packet::TYPE_C {
         return without_bytes(parse_get(text));
     }
-    if kind == 0x45 {
+    if kind == packet::TYPE_E {
         return without_bytes(parse_set(text));
     }
-    if kind != 0x41 {
+    if kind != packet::TYPE_A {
         return without_bytes(Parsed::Other);
     }
     if !text_fields::begins_with(b"F011", text) {
         return without_bytes(parse_command(text));
     }
-    let tag = digits::bytes_of(&text[4..]);
+    let tag = digits::octets_in(&text[4..]);
     let good = tag.good;
     if !good {
         return without_bytes(Parsed::Other);
@@ -120,6 +121,13 @@ fn parse_command(text: &[u8]) -> Parsed
     if text_fields::is_name(b"F012", text) {
         return Parsed::Request(Request::ItemRead(Item::FormerTag));
     }
+    parse_value_command(text)
+}
+
+// Type A, the requests that carry a value behind their name, but for the tag write.
+fn parse_value_command(text: &[u8]) -> Parsed
+    ensures { λ r. ⌜ ((bytes : List ℕ) → parsedWith r bytes ≡ valueCommandIn (now (text .entry))) ⌝ }
+{
     if text_fields::begins_with(b"C203D6", text) {
         return parse_power_control(&text[6..]);
     }

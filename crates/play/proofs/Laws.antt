@@ -1,52 +1,53 @@
--- Laws of a run's parts: what a call, a gap and a start show, what is written at the start of a list, and a trace with one more event.
+-- Laws of a run's parts: what is written at the start of a list, what a call, a gap and a start show, and what is entered of it.
 use types.Run.{OneOf, miss}
 use denote.Enum.Declared.{tagOf}
-use mathlib.Core.Bool.{Bool, true, false, cond, true≢false}
+use mathlib.Core.Bool.{true, false, true≢false}
 use mathlib.Core.List.{List, [], _∷_, _++_, append-assoc}
 use mathlib.Core.Path.{_≡_, refl, ap, _∙_}
-use Prim.Native.Nat.{ℕ, _≤_, _<_}
+use Prim.Native.Nat.{ℕ, suc, _+_, _≤_, _<_}
 use native.Mathlib.Omega.{arith}
 use borrow.Author.Tests.{le-ltb, lt-ltb, ne-eqb}
-use lib.ListN.{length, set, drop, length-append}
+use lib.ListN.{length, set, take, drop, length-append}
 use lib.Seq.{drop-drop, drop-at}
 use Rattle.wire.specs.Packet.{over}
 use Rattle.wire.specs.Refusal.{numberOf}
-use Rattle.erase.specs.Board.{Identity, Erase, idle, pending, after}
-use Rattle.erase.specs.Calls.{refuse, isSound, callOn, onCall, onStart}
-use Rattle.erase.specs.Lists.{call, step, cut, answered, unstarted, seen, from, run}
-use Rattle.erase.specs.Lists as lists
+use Rattle.calls.specs.Board.{Identity, after}
+use Rattle.calls.specs.Calls.{EntryCheck, refusedEntry, idleEntry, pendingEntry, refuse, entryCheckOf, callOn, onCall, onStep, onStart}
+use Rattle.calls.specs.Lists.{Event, call, step, cut, answered, seen, from, run}
 use Rattle.packets.specs.Packets.{BoardState, BoardOutcome}
-use Rattle.board.specs.Calls.{byte, gap, does, thisBoard}
+use Rattle.board.specs.BoardKind.{Call, byte, gap, does, boardKind}
 use Rattle.board.specs.Demand3.{Events}
 use Rattle.packets.specs.View.{Result, result}
-use Rattle.board.specs.View.{stateOf, answerOf, gave, started}
+use Rattle.board.specs.View.{answerOf, answerKind, gave, startedOf}
 use Rattle.board.specs.declared.board.Answer.{Answer}
 use Rattle.board.specs.declared.board.Done.{Done}
 use Rattle.board.specs.declared.board.Started.{Started}
-use Rattle.board.specs.declared.board.Verdict.{Verdict}
+use Rattle.board.specs.declared.board.StartAnswer.{StartAnswer}
 use Rattle.board.proofs.board.Answer.{the-type}
 use Rattle.wire.specs.declared.refusal.Refusal.{Refusal}
-use Rattle.play.specs.Play.{eventOf, numberIn, goesOn, traceOf}
+use Rattle.play.specs.Play.{eventOf, numberIn}
+use Rattle.play.specs.Inner.{Turns, Restarts, Enters}
 use Rattle.play.specs.declared.Seen.{Seen}
 use Rattle.play.specs.declared.Turn.{Turn}
 
 -- ---- the number in an answer
 
-abbrev allButRefused : List ℕ
-allButRefused = 0 ∷ 1 ∷ 2 ∷ 3 ∷ 4 ∷ 6 ∷ []
+-- the places of the seven answers, but one
+abbrev allBut : ℕ → List ℕ
+allBut n = let all : List ℕ = 0 ∷ 1 ∷ 2 ∷ 3 ∷ 4 ∷ 5 ∷ 6 ∷ [] in take n all ++ drop (suc n) all
 
-abbrev allButReply : List ℕ
-allButReply = 0 ∷ 1 ∷ 2 ∷ 3 ∷ 4 ∷ 5 ∷ []
+pub refusal-number : (a : Answer) (r : Refusal) (n : ℕ) → a ≡ Answer.Refused r → n ≡ numberOf r → n ≡ numberIn (answerOf a)
+refusal-number a r n e q = rw e q
 
 -- an answer that is no refusal and no reply has none
-pub no-number : (a : Answer) → OneOf allButRefused (tagOf the-type a) → OneOf allButReply (tagOf the-type a) → 0 ≡ numberIn (answerOf a)
+pub no-number : (a : Answer) → OneOf (allBut 5) (tagOf the-type a) → OneOf (allBut 6) (tagOf the-type a) → 0 ≡ numberIn (answerOf a)
 no-number Answer.Waiting k l = refl
 no-number Answer.Silent k l = refl
 no-number Answer.Begun k l = refl
 no-number Answer.More k l = refl
 no-number Answer.Ended k l = refl
-no-number (Answer.Refused r) k l = absurd (miss allButRefused 5 tt k)
-no-number (Answer.Reply n) k l = absurd (miss allButReply 6 tt l)
+no-number (Answer.Refused r) k l = absurd (miss (allBut 5) 5 tt k)
+no-number (Answer.Reply n) k l = absurd (miss (allBut 6) 6 tt l)
 
 -- ---- written at the start of a list
 
@@ -73,59 +74,94 @@ pub over-drop : (p o : List ℕ) (k : ℕ) → length p ≡ k → drop k (over p
 unfolding over
 over-drop p o k h = drop-at p (drop (length p) o) k h ∙ rw h
 
+-- ---- an encoded event, by the tests
+
+module _ (k : ℕ) (lent : List ℕ) where
+  byte-event : k < 256 → eventOf k lent ≡ call (byte k) lent
+  unfolding eventOf
+  byte-event h = rw (lt-ltb k 256 h)
+
+  gap-event : k ≡ 256 → eventOf k lent ≡ call gap lent
+  unfolding eventOf
+  gap-event h = rw h
+
+  step-event : k ≡ 257 → eventOf k lent ≡ step lent
+  unfolding eventOf
+  step-event h = rw h
+
+  cut-event : 256 ≤ k → (k ≡ 256 → ⊥) → (k ≡ 257 → ⊥) → eventOf k lent ≡ cut
+  unfolding eventOf
+  cut-event h g s = rw (le-ltb k 256 h, ne-eqb k 256 g, ne-eqb k 257 s)
+
 -- ---- what a call shows
 
-pub shown : (i : Identity) (t : Turn) (d : Done) (m m′ lent : List ℕ) (o : BoardOutcome)
+shown : (i : Identity) (s : BoardState) (e : Event Call) (t : Turn) (d : Done) (m m′ lent : List ℕ) (o : BoardOutcome)
     → t ≡ record { board = d .board; seen = Seen.Answered (d .answer) } → gave d m′ lent ≡ result o m
-    → ((es : Events) → traceOf t i m′ lent es ≡ seen thisBoard o m ∷ run thisBoard i (o .state) (after o m) es) × (goesOn (t .seen) ≡ false → m′ ≡ m)
+    → ((es : Events) → seen boardKind o m ∷ run boardKind i (o .state) (after o m) es ≡ run boardKind i s m (e ∷ es)) → Turns t i s e m m′ lent
 unfolding seen
-shown i t d m m′ lent o a e =
+shown i s e t d m m′ lent o a q f =
     rw a
-    (λ es. ap (λ (r : Result). answered (r .answer) (r .buffer) (r .store) ∷ run thisBoard i (r .state) (r .store) es) e, λ f. absurd (true≢false f))
+    (record {
+      traced = λ es. ap (λ (r : Result). answered (r .answer) (r .buffer) (r .store) ∷ run boardKind i (r .state) (r .store) es) q ∙ f es;
+      kept = λ g. absurd (true≢false g);
+    })
 
 abbrev lentAs : List ℕ → Result → Result
 lentAs lent r = record { answer = r .answer; state = r .state; store = r .store; buffer = lent }
 
 module _ (s : BoardState) (m lent : List ℕ) where
-  gap-as : (t : Bool) (x : Erase Bool)
-      → lentAs lent (result (cond t (callOn thisBoard x gap s m []) (refuse thisBoard 12 s [])) m)
-      ≡ result (cond t (callOn thisBoard x gap s m lent) (refuse thisBoard 12 s lent)) m
+  gap-as : (x : EntryCheck) → lentAs lent (result (callOn boardKind x gap s m []) m) ≡ result (callOn boardKind x gap s m lent) m
   unfolding callOn refuse does
-  gap-as true idle = refl
-  gap-as true (pending p owed) = refl
-  gap-as false x = refl
+  gap-as (refusedEntry n) = refl
+  gap-as idleEntry = refl
+  gap-as pendingEntry = refl
 
   -- a gap leaves any lent buffer as it is, and is the same with all
-  pub gap-lent : (d : Done) (m′ : List ℕ) → gave d m′ [] ≡ result (onCall thisBoard gap s m []) m → gave d m′ lent ≡ result (onCall thisBoard gap s m lent) m
+  gap-lent : (d : Done) (m′ : List ℕ) → gave d m′ [] ≡ result (onCall boardKind gap s m []) m
+      → gave d m′ lent ≡ result (onCall boardKind gap s m lent) m
   unfolding onCall
-  gap-lent d m′ e = ap (lentAs lent) e ∙ gap-as (isSound thisBoard s m) (s .erase)
+  gap-lent d m′ e = ap (lentAs lent) e ∙ gap-as (entryCheckOf boardKind false s m)
+
+-- each way through a turn: the tests tell the event, and its call shows what its contract says
+module _ (i : Identity) (s : BoardState) (k : ℕ) (t : Turn) (m m′ lent lent′ : List ℕ) where
+  module _ (d : Done) (made : t ≡ record { board = d .board; seen = Seen.Answered (d .answer) }) where
+    pub byte-turns : gave d m′ lent′ ≡ result (onCall boardKind (byte k) s m lent) m → k < 256 → Turns t i s (eventOf k lent) m m′ lent′
+    unfolding run
+    byte-turns e h = rw (byte-event k lent h) (shown i s _ t d m m′ lent′ _ made e (λ es. refl))
+
+    pub gap-turns : gave d m′ [] ≡ result (onCall boardKind gap s m []) m → k ≡ 256 → Turns t i s (eventOf k lent) m m′ lent
+    unfolding run
+    gap-turns e h = rw (gap-event k lent h) (shown i s _ t d m m′ lent _ made (gap-lent s m lent d m′ e) (λ es. refl))
+
+    pub step-turns : gave d m′ lent′ ≡ result (onStep boardKind s m lent) m → k ≡ 257 → Turns t i s (eventOf k lent) m m′ lent′
+    unfolding run
+    step-turns e h = rw (step-event k lent h) (shown i s _ t d m m′ lent′ _ made e (λ es. refl))
+
+  pub cut-turns : Restarts t i m m′ → 256 ≤ k → (k ≡ 256 → ⊥) → (k ≡ 257 → ⊥) → Turns t i s (eventOf k lent) m m′ lent
+  cut-turns r h g n = rw (cut-event k lent h g n) (record { traced = r .traced s lent; kept = λ _. r .same })
 
 -- ---- what a start shows
 
-module _ (i : Identity) (r : Started) (m m′ : List ℕ) (told : started r ≡ onStart thisBoard i m) (same : m′ ≡ m) (s : BoardState) (es : Events) where
-  pub ready-shown : r .verdict ≡ Verdict.Ready → lists.started m′ ∷ run thisBoard i (stateOf (r .board)) m′ es ≡ run thisBoard i s m (cut ∷ es)
+module _ (i : Identity) (r : Started) (m m′ : List ℕ) (told : startedOf r ≡ onStart boardKind i m) (same : m′ ≡ m) where
+  pub started-again : r .answer ≡ StartAnswer.Ready → Restarts (record { board = r .board; seen = Seen.Started }) i m m′
   unfolding run from
-  ready-shown v = rw (← told, v, same)
+  started-again v = record { traced = λ s lent es. rw (← told, v, same); same = same }
 
-  pub refused-shown : (q : Refusal) → r .verdict ≡ Verdict.Refused q → unstarted (numberOf q) ∷ [] ≡ run thisBoard i s m (cut ∷ es)
+  pub refused-again : (q : Refusal) → r .answer ≡ StartAnswer.Refused q → Restarts (record { board = r .board; seen = Seen.Unstarted q }) i m m′
   unfolding run from
-  refused-shown q v = rw (← told, v)
+  refused-again q v = record { traced = λ s lent es. rw (← told, v); same = same }
 
--- ---- an encoded event, by the tests
+-- ---- what is entered
 
-module _ (k : ℕ) (lent : List ℕ) where
-  pub byte-event : k < 256 → eventOf k lent ≡ call (byte k) lent
-  unfolding eventOf
-  byte-event h = rw (lt-ltb k 256 h)
+module _ (s : Seen) (m log log′ : List ℕ) where
+  pub answer-enters : (a : Answer) (k n : ℕ) → s ≡ Seen.Answered a → k ≡ answerKind (answerOf a) → n ≡ numberIn (answerOf a)
+      → log′ ≡ over (k ∷ n ∷ m) log
+      → Enters s true m log log′
+  answer-enters a k n v kind number e = rw v (record { told = refl; entered = λ lent. e ∙ rw (kind, number) })
 
-  pub gap-event : k ≡ 256 → eventOf k lent ≡ call gap lent
-  unfolding eventOf
-  gap-event h = rw h
+  pub start-enters : s ≡ Seen.Started → log′ ≡ over (7 ∷ 0 ∷ m) log → Enters s true m log log′
+  start-enters v e = rw v (record { told = refl; entered = λ lent. e })
 
-  pub step-event : k ≡ 257 → eventOf k lent ≡ step lent
-  unfolding eventOf
-  step-event h = rw h
-
-  pub cut-event : 256 ≤ k → (k ≡ 256 → ⊥) → (k ≡ 257 → ⊥) → eventOf k lent ≡ cut
-  unfolding eventOf
-  cut-event h g s = rw (le-ltb k 256 h, ne-eqb k 256 g, ne-eqb k 257 s)
+  pub refusal-enters : (q : Refusal) (n : ℕ) → s ≡ Seen.Unstarted q → n ≡ numberOf q → length m + 2 ≤ length log
+      → Enters s false m log (set (set log 0 8) 1 n)
+  refusal-enters q n v e h = rw v (record { told = refl; entered = λ lent. two-over 8 n log (omega arith) ∙ rw e })

@@ -1,21 +1,17 @@
--- Encoded lists of calls and power cuts, and what is written of a run. The run is the one that demand 3 speaks of.
-use mathlib.Core.Bool.{Bool, true, false, cond}
+-- Encoded lists of calls and power cuts, and what is written of a run (docs/RULES.md, D3g). The run is that of demand 3.
+use mathlib.Core.Bool.{cond}
 use mathlib.Core.List.{List, [], _∷_, _++_}
 use mathlib.Core.Path.{_≡_}
 use Prim.Native.Nat.{ℕ, _+_, _-_}
 use lib.Dec.{ltb, eqb}
 use lib.ListN.{length, take, drop}
 use Rattle.wire.specs.Packet.{over}
-use Rattle.wire.specs.Refusal.{numberOf}
-use Rattle.erase.specs.Board.{Identity, Answer, waiting, silent, begun, more, ended, refused, reply}
-use Rattle.erase.specs.Lists.{Event, call, step, cut, answered, started, unstarted, run}
-use Rattle.erase.specs.Lists as lists
-use Rattle.board.specs.Calls.{Call, byte, gap, thisBoard}
+use Rattle.calls.specs.Board.{Answer, waiting, silent, begun, more, ended, refused, reply}
+use Rattle.calls.specs.Lists.{Event, call, step, cut, answered, started, unstarted}
+use Rattle.calls.specs.Lists as lists
+use Rattle.board.specs.BoardKind.{Call, byte, gap}
 use Rattle.board.specs.Demand3.{Events, Trace}
-use Rattle.board.specs.View.{stateOf, answerOf, kindOf}
-use Rattle.board.specs.declared.board.Board.{Board}
-use Rattle.play.specs.declared.Seen.{Seen}
-use Rattle.play.specs.declared.Turn.{Turn}
+use Rattle.board.specs.View.{answerKind}
 
 -- ---- encoded events
 
@@ -49,14 +45,14 @@ numberIn (refused n) = n
 numberIn (reply n) = n
 
 -- the answer and the store after it; 7 for a start, 8 with the number for a refused one
-abbrev pub entryOf : lists.Seen ℕ → List ℕ
-entryOf (answered a lent m) = kindOf a ∷ numberIn a ∷ m
-entryOf (started m) = 7 ∷ 0 ∷ m
-entryOf (unstarted n) = 8 ∷ n ∷ []
+abbrev pub logEntry : lists.Seen ℕ → List ℕ
+logEntry (answered a lent m) = answerKind a ∷ numberIn a ∷ m
+logEntry (started m) = 7 ∷ 0 ∷ m
+logEntry (unstarted n) = 8 ∷ n ∷ []
 
 unfoldable pub logOf : Trace → List ℕ
 logOf [] = []
-logOf (o ∷ os) = entryOf o ++ logOf os
+logOf (o ∷ os) = logEntry o ++ logOf os
 
 -- the lent buffers as the calls left them
 unfoldable pub lentsOf : Trace → List ℕ
@@ -77,25 +73,3 @@ pub record Plays (t : Trace) (storeBefore storeAfter lentBefore lentAfter logBef
   pub store : storeAfter ≡ leftBy t storeBefore
   pub lent : lentAfter ≡ over (lentsOf t) lentBefore
   pub log : logAfter ≡ over (logOf t) logBefore
-
--- ---- what the code's values mean
-
-abbrev pub seenOf : Seen → (m lent : List ℕ) → lists.Seen ℕ
-seenOf (Seen.Answered a) m lent = answered (answerOf a) lent m
-seenOf Seen.Started m lent = started m
-seenOf (Seen.Unstarted r) m lent = unstarted (numberOf r)
-
--- a refused start leaves no board
-abbrev pub goesOn : Seen → Bool
-goesOn (Seen.Answered a) = true
-goesOn Seen.Started = true
-goesOn (Seen.Unstarted r) = false
-
--- what is seen of an event, and of the events after it; none is played after a refused start
-abbrev pub traceWith : Seen → Board → Identity → (m lent : List ℕ) → Events → Trace
-traceWith (Seen.Answered a) b i m lent es = answered (answerOf a) lent m ∷ run thisBoard i (stateOf b) m es
-traceWith Seen.Started b i m lent es = started m ∷ run thisBoard i (stateOf b) m es
-traceWith (Seen.Unstarted r) b i m lent es = unstarted (numberOf r) ∷ []
-
-abbrev pub traceOf : Turn → Identity → (m lent : List ℕ) → Events → Trace
-traceOf t i m lent es = traceWith (t .seen) (t .board) i m lent es

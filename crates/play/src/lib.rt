@@ -1,22 +1,19 @@
 // Lists of calls and power cuts, played on a board by its real calls, with all that is seen of them.
-ghost use mathlib.Core.Bool.{false};
-ghost use mathlib.Core.List.{List, _∷_};
+ghost use mathlib.Core.List.{_∷_};
 ghost use mathlib.Core.Path.{_≡_};
-ghost use Prim.Native.Nat.{ℕ, _+_, _≤_};
+ghost use Prim.Native.Nat.{_+_, _≤_};
 ghost use lib.Dec.{ltb};
 ghost use lib.ListN.{length};
 ghost use Rattle.wire.specs.Packet.{over};
 ghost use Rattle.board.specs.View.{stateOf, answerOf, givenIdentity};
-ghost use Rattle.board.specs.Demand3.{Events};
-ghost use Rattle.packets.specs.Packets.{BoardState};
-ghost use Rattle.board.specs.Calls.{thisBoard};
-ghost use Rattle.erase.specs.Lists.{cut, run};
-ghost use Rattle.play.specs.Play.{eventOf, eventsIn, partOf, numberIn, entryOf, seenOf, goesOn, traceOf, Plays};
-use board::board as calls;
+ghost use Rattle.board.specs.BoardKind.{boardKind};
+ghost use Rattle.calls.specs.Lists.{run};
+ghost use Rattle.play.specs.Play.{eventOf, eventsIn, partOf, numberIn, Plays};
+ghost use Rattle.play.specs.Inner.{Turns, Restarts, Enters, Leaves, PlaysFirst, PlaysRest};
 use board::board::Answer;
 use board::board::Board;
 use board::board::Done;
-use board::board::Verdict;
+use board::board::StartAnswer;
 use wire::refusal::Refusal;
 
 // What is seen of an event.
@@ -32,6 +29,13 @@ pub struct Turn {
     pub seen: Seen,
 }
 
+// The board after the first event, how many bytes of what is lent it had, and whether events may come after it.
+pub struct First {
+    pub board: Board,
+    pub part: usize,
+    pub more: bool,
+}
+
 // Plays events on a board and a store. Two numbers are an event: a byte, 256 for a gap, 257 for a step or another for a power cut with its
 // start; and the length of its lent buffer, which is the next part of what is lent. The parts are left as the calls leave them. For each
 // event its answer and the store after it are written, as long as there is room; after a refused start nothing more is played.
@@ -45,23 +49,89 @@ pub fn play(
     lent: &mut [u8],
     log: &mut [usize],
 )
-    ensures { λ _. ⌜ Plays (run thisBoard (givenIdentity id (now (serial .entry)) (now (model .entry))) (stateOf board) (now (store .entry)) (eventsIn (length (now (store .entry))) (length (now (log .entry))) (now (events .entry)) (now (lent .entry)))) (now (store .entry)) (now (store .exit)) (now (lent .entry)) (now (lent .exit)) (now (log .entry)) (now (log .exit)) ⌝ }
+    ensures { λ _. ⌜ Plays (run boardKind (givenIdentity id (now (serial .entry)) (now (model .entry))) (stateOf board) (now (store .entry)) (eventsIn (length (now (store .entry))) (length (now (log .entry))) (now (events .entry)) (now (lent .entry)))) (now (store .entry)) (now (store .exit)) (now (lent .entry)) (now (lent .exit)) (now (log .entry)) (now (log .exit)) ⌝ }
+{
+    let first = play_first(board, id, serial, model, store, events, lent, log);
+    if !first.more {
+        return;
+    }
+    play_rest(first, id, serial, model, store, events, lent, log)
+}
+
+// Plays the first event, where there is one, and room for its entry.
+fn play_first(
+    board: Board,
+    id: u8,
+    serial: &[u8],
+    model: &[u8],
+    store: &mut [u8],
+    events: &[u16],
+    lent: &mut [u8],
+    log: &mut [usize],
+) -> First
+    ensures { λ r. ⌜ PlaysFirst r (givenIdentity id (now (serial .entry)) (now (model .entry))) (stateOf board) (now (events .entry)) (now (store .entry)) (now (store .exit)) (now (lent .entry)) (now (lent .exit)) (now (log .entry)) (now (log .exit)) ⌝ }
 {
     if events.len() < 2 {
-        return;
+        return First {
+            board,
+            part: 0,
+            more: false,
+        };
     }
     if is_full(log.len(), store.len()) {
-        return;
+        return First {
+            board,
+            part: 0,
+            more: false,
+        };
     }
+    play_event(board, id, serial, model, store, events, lent, log)
+}
+
+// Plays the first event and writes its entry.
+fn play_event(
+    board: Board,
+    id: u8,
+    serial: &[u8],
+    model: &[u8],
+    store: &mut [u8],
+    events: &[u16],
+    lent: &mut [u8],
+    log: &mut [usize],
+) -> First
+    requires { ⌜ (2 ≤ length (now events)) × (length (now store) + 2 ≤ length (now log)) ⌝ }
+    ensures { λ r. ⌜ PlaysFirst r (givenIdentity id (now (serial .entry)) (now (model .entry))) (stateOf board) (now (events .entry)) (now (store .entry)) (now (store .exit)) (now (lent .entry)) (now (lent .exit)) (now (log .entry)) (now (log .exit)) ⌝ }
+{
     let event = events[0];
     let n = part(event, events[1], lent.len());
     let turn = turn_of(board, id, serial, model, store, event, &mut lent[..n]);
     let seen = turn.seen;
-    if !enter(seen, store, log) {
-        return;
-    }
-    let used = store.len() + 2;
     let next = turn.board;
+    let more = enter(seen, store, log);
+    First {
+        board: next,
+        part: n,
+        more,
+    }
+}
+
+// Plays the events after the first, on what is left of what is lent and of the log.
+fn play_rest(
+    first: First,
+    id: u8,
+    serial: &[u8],
+    model: &[u8],
+    store: &mut [u8],
+    events: &[u16],
+    lent: &mut [u8],
+    log: &mut [usize],
+)
+    requires { ⌜ Leaves first (now events) (now store) (now lent) (now log) ⌝ }
+    ensures { λ _. ⌜ PlaysRest first (givenIdentity id (now (serial .entry)) (now (model .entry))) (now (events .entry)) (now (store .entry)) (now (store .exit)) (now (lent .entry)) (now (lent .exit)) (now (log .entry)) (now (log .exit)) ⌝ }
+{
+    let next = first.board;
+    let n = first.part;
+    let used = store.len() + 2;
     play(
         next,
         id,
@@ -107,7 +177,7 @@ fn turn_of(
     event: u16,
     lent: &mut [u8],
 ) -> Turn
-    ensures { λ r. ⌜ ((es : Events) → traceOf r (givenIdentity id (now (serial .entry)) (now (model .entry))) (now (store .exit)) (now (lent .exit)) es ≡ run thisBoard (givenIdentity id (now (serial .entry)) (now (model .entry))) (stateOf board) (now (store .entry)) (eventOf event (now (lent .entry)) ∷ es)) × (goesOn (r .seen) ≡ false → now (store .exit) ≡ now (store .entry)) ⌝ }
+    ensures { λ r. ⌜ Turns r (givenIdentity id (now (serial .entry)) (now (model .entry))) (stateOf board) (eventOf event (now (lent .entry))) (now (store .entry)) (now (store .exit)) (now (lent .exit)) ⌝ }
 {
     if event < 256 {
         let done = board.byte(store, event as u8, lent);
@@ -138,19 +208,19 @@ fn answered(done: Done) -> Turn
 
 // A power cut's start, on the store as it is, and is left.
 fn start_again(store: &mut [u8], id: u8, serial: &[u8], model: &[u8]) -> Turn
-    ensures { λ r. ⌜ ((s : BoardState) (lent : List ℕ) (es : Events) → traceOf r (givenIdentity id (now (serial .entry)) (now (model .entry))) (now (store .exit)) lent es ≡ run thisBoard (givenIdentity id (now (serial .entry)) (now (model .entry))) s (now (store .entry)) (cut ∷ es)) × (now (store .exit) ≡ now (store .entry)) ⌝ }
+    ensures { λ r. ⌜ Restarts r (givenIdentity id (now (serial .entry)) (now (model .entry))) (now (store .entry)) (now (store .exit)) ⌝ }
 {
-    let started = calls::start(store, id, serial, model);
-    let verdict = started.verdict;
+    let started = board::board::start(store, id, serial, model);
+    let answer = started.answer;
     let next = started.board;
-    match verdict {
-        Verdict::Ready => {
+    match answer {
+        StartAnswer::Ready => {
             return Turn {
                 board: next,
                 seen: Seen::Started,
             };
         }
-        Verdict::Refused(refusal) => {
+        StartAnswer::Refused(refusal) => {
             return Turn {
                 board: next,
                 seen: Seen::Unstarted(refusal),
@@ -162,7 +232,7 @@ fn start_again(store: &mut [u8], id: u8, serial: &[u8], model: &[u8]) -> Turn
 // Writes what is seen of an event at the start of the log; whether there is a board after it.
 fn enter(seen: Seen, store: &[u8], log: &mut [usize]) -> bool
     requires { ⌜ length (now store) + 2 ≤ length (now log) ⌝ }
-    ensures { λ r. ⌜ (r ≡ goesOn seen) × ((lent : List ℕ) → now (log .exit) ≡ over (entryOf (seenOf seen (now (store .entry)) lent)) (now (log .entry))) ⌝ }
+    ensures { λ r. ⌜ Enters seen r (now (store .entry)) (now (log .entry)) (now (log .exit)) ⌝ }
 {
     match seen {
         Seen::Answered(answer) => {

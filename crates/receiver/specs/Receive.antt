@@ -1,4 +1,4 @@
--- The receiver (document 01, 'How bytes become a packet'): what it holds and answers, one byte or gap at a time.
+-- The receiver (docs/RULES.md, 'Receiver', RX1 to RX6): what it holds and answers, one byte or gap at a time.
 use mathlib.Core.Bool.{Bool, true, false, cond, _&&_, _||_}
 use mathlib.Core.List.{List, [], _∷_, _++_}
 use Prim.Native.Nat.{ℕ}
@@ -9,15 +9,15 @@ use Rattle.wire.specs.Judge.{Verdict, headerVerdict, packetVerdict}
 use Rattle.wire.specs.Judge as judge
 
 -- waiting for more, refused with a number, or a whole packet that refusals 2 to 7 let pass
-pub data Answer : Type 0 where
-  waiting : Answer
-  refused : ℕ → Answer
-  whole : List ℕ → Answer
+pub data Reception : Type 0 where
+  waiting : Reception
+  refused : ℕ → Reception
+  whole : List ℕ → Reception
 
 -- what is held after a call, and its answer
 pub record Receipt : Type 0 where
   pub held : List ℕ
-  pub answer : Answer
+  pub answer : Reception
 
 abbrev pub keeps : List ℕ → Receipt
 keeps held = record { held = held; answer = waiting }
@@ -53,7 +53,7 @@ abbrev pub isGood : Verdict → Bool
 isGood judge.good = true
 isGood (judge.refused n) = false
 
--- document 01's 'proper beginning of a packet': none; or SOH first, fewer than all bytes, and from 7 on a header that passes 2, 3 and 4
+-- 'proper beginning' (ST4): none; or SOH first, fewer than all bytes, and from 7 on a header that passes 2, 3 and 4
 unfoldable pub isProperBeginning : List ℕ → Bool
 isProperBeginning held =
     eqb (length held) 0
@@ -73,6 +73,6 @@ unfoldable pub heldAfter : List ℕ → List ℕ → List ℕ
 heldAfter held [] = held
 heldAfter held (b ∷ bs) = heldAfter (onByte held b .held) bs
 
-unfoldable pub answersTo : List ℕ → List ℕ → List Answer
+unfoldable pub answersTo : List ℕ → List ℕ → List Reception
 answersTo held [] = []
 answersTo held (b ∷ bs) = onByte held b .answer ∷ answersTo (onByte held b .held) bs

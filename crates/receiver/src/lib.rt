@@ -8,13 +8,17 @@ ghost use lib.ListN.{length, take};
 ghost use Rattle.wire.specs.Judge.{headerVerdict, verdict as verdictOf};
 ghost use Rattle.wire.specs.Packet.{size};
 ghost use Rattle.receiver.specs.Receive.{accept, grown, isGood, isProperBeginning, judged, onByte, onGap};
-ghost use Rattle.receiver.specs.View.{heldOf, receipt, stepped, Grown};
+ghost use Rattle.receiver.specs.View.{heldOf, receipt};
+ghost use Rattle.receiver.specs.Inner.{progressReceipt, GrownBeginning};
 use wire::packet;
 use wire::packet::Judged;
 use wire::refusal::Refusal;
 
+// Of the longest packet at least the last byte is not held.
+const MOST_HELD: u8 = 72;
+
 // What a byte brings about. A whole packet is the first bytes of the array, as many as it counts.
-pub enum Answer {
+pub enum Reception {
     Waiting,
     Refused(Refusal),
     Whole(u8),
@@ -29,14 +33,14 @@ pub enum Progress {
 
 // The held bytes: the first of the array, as many as len says.
 pub struct Receiver {
-    pub held: [u8; 73],
+    pub held: [u8; packet::MOST_PACKET],
     pub len: u8,
 }
 
 // The next receiver, with the answer.
 pub struct Received {
     pub receiver: Receiver,
-    pub answer: Answer,
+    pub answer: Reception,
 }
 
 impl Receiver {
@@ -48,7 +52,7 @@ impl Receiver {
         if !is_proper_beginning(&self.held, len) {
             return Received {
                 receiver: self,
-                answer: Answer::Refused(Refusal::Unsound),
+                answer: Reception::Refused(Refusal::Unsound),
             };
         }
         match step(&mut self.held, len, b) {
@@ -56,21 +60,21 @@ impl Receiver {
                 self.len = len + 1;
                 return Received {
                     receiver: self,
-                    answer: Answer::Waiting,
+                    answer: Reception::Waiting,
                 };
             }
             Progress::Refused(refusal) => {
                 self.len = 0;
                 return Received {
                     receiver: self,
-                    answer: Answer::Refused(refusal),
+                    answer: Reception::Refused(refusal),
                 };
             }
             Progress::Whole => {
                 self.len = 0;
                 return Received {
                     receiver: self,
-                    answer: Answer::Whole(len + 1),
+                    answer: Reception::Whole(len + 1),
                 };
             }
         }
@@ -83,26 +87,26 @@ impl Receiver {
         self.len = 0;
         Received {
             receiver: self,
-            answer: Answer::Waiting,
+            answer: Reception::Waiting,
         }
     }
 }
 
 // Whether the first len bytes are a proper beginning of a packet.
-pub fn is_proper_beginning(held: &[u8; 73], len: u8) -> bool
+pub fn is_proper_beginning(held: &[u8; packet::MOST_PACKET], len: u8) -> bool
     ensures { λ r. ⌜ r ≡ isProperBeginning (take len (now (held .entry))) ⌝ }
 {
     let bytes: &[u8] = held;
     if len == 0 {
         return true;
     }
-    if bytes[0] != 0x01 {
+    if bytes[0] != packet::SOH {
         return false;
     }
     if len < 7 {
         return true;
     }
-    if 72 < len {
+    if MOST_HELD < len {
         return false;
     }
     is_good_beginning(bytes, len as usize)
@@ -121,16 +125,16 @@ fn is_good_beginning(bytes: &[u8], n: usize) -> bool
 }
 
 // One byte behind the first len, which are a proper beginning. A whole packet is these and the byte.
-pub fn step(held: &mut [u8; 73], len: u8, b: u8) -> Progress
+pub fn step(held: &mut [u8; packet::MOST_PACKET], len: u8, b: u8) -> Progress
     requires { ⌜ isProperBeginning (take len (now held)) ≡ true ⌝ }
     ensures { λ r. ⌜ len ≤ 72 ⌝ }
-    ensures { λ r. ⌜ stepped r (take (len + 1) (now (held .exit))) ≡ accept (take len (now (held .entry))) b ⌝ }
+    ensures { λ r. ⌜ progressReceipt r (take (len + 1) (now (held .exit))) ≡ accept (take len (now (held .entry))) b ⌝ }
 {
     let n = len as usize;
     let bytes: &mut [u8] = held;
     bytes[n] = b;
     if n == 0 {
-        if b != 0x01 {
+        if b != packet::SOH {
             return Progress::Refused(Refusal::NoStart);
         }
         return Progress::Waiting;
@@ -140,8 +144,8 @@ pub fn step(held: &mut [u8; 73], len: u8, b: u8) -> Progress
 
 // What the first n bytes come to, the last of them new.
 fn judge(bytes: &[u8], n: usize) -> Progress
-    requires { ⌜ (n ≤ length (now bytes)) × Grown (take n (now bytes)) ⌝ }
-    ensures { λ r. ⌜ stepped r (take n (now (bytes .entry))) ≡ grown (take n (now (bytes .entry))) ⌝ }
+    requires { ⌜ (n ≤ length (now bytes)) × GrownBeginning (take n (now bytes)) ⌝ }
+    ensures { λ r. ⌜ progressReceipt r (take n (now (bytes .entry))) ≡ grown (take n (now (bytes .entry))) ⌝ }
 {
     let held = &bytes[..n];
     if n < 7 {
@@ -158,7 +162,7 @@ fn judge(bytes: &[u8], n: usize) -> Progress
 
 // The progress, unless the verdict is a refusal.
 fn unless_refused(verdict: Judged, progress: Progress) -> Progress
-    ensures { λ r. ⌜ ((held : List ℕ) → stepped r held ≡ judged (verdictOf verdict) (stepped progress held)) ⌝ }
+    ensures { λ r. ⌜ ((held : List ℕ) → progressReceipt r held ≡ judged (verdictOf verdict) (progressReceipt progress held)) ⌝ }
 {
     let Judged::Refused(refusal) = verdict else {
         return progress;

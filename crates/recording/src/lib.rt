@@ -2,14 +2,16 @@
 ghost use mathlib.Core.Bool.{true};
 ghost use mathlib.Core.List.{[]};
 ghost use mathlib.Core.Path.{_≡_};
-ghost use Prim.Native.Nat.{_+_, _<_};
+ghost use Prim.Native.Nat.{_<_};
 ghost use lib.ListN.{take};
 ghost use Rattle.receiver.specs.Receive.{accept, answersTo, isProperBeginning, onByte};
 ghost use Rattle.receiver.specs.View.{heldOf};
-ghost use Rattle.recording.specs.Recording.{isWhole, isRefusal, wholes, refusals};
-use receiver::Answer;
+ghost use Rattle.recording.specs.Recording.{wholes, refusals};
+ghost use Rattle.recording.specs.Inner.{Counts};
 use receiver::Progress;
 use receiver::Receiver;
+use receiver::Reception;
+use wire::packet;
 
 // How many bytes are held, and the counts so far.
 pub struct Tally {
@@ -30,7 +32,7 @@ pub struct Count {
 pub extern "C" fn recording_count(recording: &[u8], refused: &mut u64) -> u64
     ensures { λ r. ⌜ (r ≡ wholes (answersTo [] (now (recording .entry)))) × (now (refused .exit) ≡ refusals (answersTo [] (now (recording .entry)))) ⌝ }
 {
-    let mut held = [0u8; 73];
+    let mut held = [0u8; packet::MOST_PACKET];
     let mut tally = Tally {
         len: 0,
         packets: 0,
@@ -38,7 +40,7 @@ pub extern "C" fn recording_count(recording: &[u8], refused: &mut u64) -> u64
     };
     let mut i: usize = 0;
     while i < recording.len() {
-        tally = fed(&mut held, tally, recording[i]);
+        tally = tallied(&mut held, tally, recording[i]);
         i += 1;
     }
     *refused = tally.refusals;
@@ -52,7 +54,7 @@ pub extern "C" fn recording_count_by_value(recording: &[u8], refused: &mut u64) 
 {
     let mut count = Count {
         receiver: Receiver {
-            held: [0u8; 73],
+            held: [0u8; packet::MOST_PACKET],
             len: 0,
         },
         packets: 0,
@@ -68,11 +70,10 @@ pub extern "C" fn recording_count_by_value(recording: &[u8], refused: &mut u64) 
 }
 
 // One byte more.
-fn fed(held: &mut [u8; 73], tally: Tally, b: u8) -> Tally
+fn tallied(held: &mut [u8; packet::MOST_PACKET], tally: Tally, b: u8) -> Tally
     requires { ⌜ isProperBeginning (take (tally .len) (now held)) ≡ true ⌝ }
     requires { ⌜ (tally .packets < 18446744073709551615) × (tally .refusals < 18446744073709551615) ⌝ }
-    ensures { λ r. ⌜ take (r .len) (now (held .exit)) ≡ accept (take (tally .len) (now (held .entry))) b .held ⌝ }
-    ensures { λ r. ⌜ (r .packets ≡ tally .packets + isWhole (accept (take (tally .len) (now (held .entry))) b .answer)) × (r .refusals ≡ tally .refusals + isRefusal (accept (take (tally .len) (now (held .entry))) b .answer)) ⌝ }
+    ensures { λ r. ⌜ Counts (accept (take (tally .len) (now (held .entry))) b) (tally .packets) (tally .refusals) (take (r .len) (now (held .exit))) (r .packets) (r .refusals) ⌝ }
 {
     match receiver::step(held, tally.len, b) {
         Progress::Waiting => {
@@ -102,29 +103,28 @@ fn fed(held: &mut [u8; 73], tally: Tally, b: u8) -> Tally
 // One byte more, by value.
 fn counted(count: Count, b: u8) -> Count
     requires { ⌜ (count .packets < 18446744073709551615) × (count .refusals < 18446744073709551615) ⌝ }
-    ensures { λ r. ⌜ heldOf (r .receiver) ≡ onByte (heldOf (count .receiver)) b .held ⌝ }
-    ensures { λ r. ⌜ (r .packets ≡ count .packets + isWhole (onByte (heldOf (count .receiver)) b .answer)) × (r .refusals ≡ count .refusals + isRefusal (onByte (heldOf (count .receiver)) b .answer)) ⌝ }
+    ensures { λ r. ⌜ Counts (onByte (heldOf (count .receiver)) b) (count .packets) (count .refusals) (heldOf (r .receiver)) (r .packets) (r .refusals) ⌝ }
 {
     let receiver = count.receiver;
     let received = receiver.byte(b);
     let next = received.receiver;
     let answer = received.answer;
     match answer {
-        Answer::Waiting => {
+        Reception::Waiting => {
             return Count {
                 receiver: next,
                 packets: count.packets,
                 refusals: count.refusals,
             };
         }
-        Answer::Refused(_) => {
+        Reception::Refused(_) => {
             return Count {
                 receiver: next,
                 packets: count.packets,
                 refusals: count.refusals + 1,
             };
         }
-        Answer::Whole(_) => {
+        Reception::Whole(_) => {
             return Count {
                 receiver: next,
                 packets: count.packets + 1,

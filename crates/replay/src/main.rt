@@ -1,10 +1,10 @@
 // Bytes from standard input, given to an unused board of ID 1 with no serial number and no model; a line for each answer.
 ghost use Prim.Native.Nat.{_≤_};
 ghost use lib.ListN.{length};
-use board::board as calls;
 use board::board::Board;
 use store::fields;
 use transcript::feed;
+use transcript::feed::Given;
 
 // The board, how many bytes it was given, and whether there may be more.
 pub struct Session {
@@ -18,7 +18,7 @@ fn main() {
     let mut store = fields::unused();
     let mut reply = [0u8; 64];
     let mut out = io::large_buffer();
-    let started = calls::start(&mut store, 1, b"", b"");
+    let started = board::board::start(&mut store, 1, b"", b"");
     let board = started.board;
     let session = Session {
         board,
@@ -61,9 +61,9 @@ fn give_all(
     while i < bytes.len() {
         used = with_room(used, out);
         at = counted(at);
-        let given = feed::feed(board, store, at, bytes[i], reply, &mut out[used..]);
+        let given = give(out, used, board, store, at, bytes[i], reply);
         board = given.board;
-        used += given.length;
+        used = given.length;
         i += 1;
     }
     io::write_all(1, &out[..used]);
@@ -71,6 +71,28 @@ fn give_all(
         board,
         at,
         open: 0 < i,
+    }
+}
+
+// Gives the board a byte, and writes its lines behind what is used of the buffer; the next board, and how much is used then.
+fn give(
+    out: &mut [u8],
+    used: usize,
+    board: Board,
+    store: &mut [u8],
+    at: u64,
+    b: u8,
+    reply: &mut [u8],
+) -> Given
+    requires { ⌜ used ≤ length (now out) ⌝ }
+    ensures { λ r. ⌜ r .length ≤ length (now (out .exit)) ⌝ }
+{
+    let given = feed::feed(board, store, at, b, reply, &mut out[used..]);
+    let next = given.board;
+    let length = used + given.length;
+    Given {
+        board: next,
+        length,
     }
 }
 

@@ -1,26 +1,28 @@
--- What the reader's answer means, with document 01's number for a refusal.
+-- What is read of a text (docs/RULES.md, 'Station', RD1), and what the code's answer means, with the rules' number for a refusal.
 use mathlib.Core.List.{List}
 use mathlib.Core.Option.{Option, none, some}
 use Prim.Native.Nat.{ℕ}
 use Rattle.wire.specs.Refusal.{numberOf}
 use Rattle.messages.specs.Message as message
 use Rattle.messages.specs.View.{replyOf}
-use Rattle.replies.specs.declared.read.Answer.{Answer}
-use Rattle.replies.specs.declared.read.ReplyRead.{ReplyRead}
+use Rattle.replies.specs.declared.read.ReplyOrRefusal.{ReplyOrRefusal}
+use Rattle.replies.specs.declared.read.TextReading as declared
 
 -- a reply, or refused with a number
-pub data Reading : Type 0 where
-  reply : message.Reply → Reading
-  refused : ℕ → Reading
+pub data TextReading : Type 0 where
+  reply : message.Reply → TextReading
+  refused : ℕ → TextReading
 
--- none of the replies of its type is refusal 35
-abbrev pub orRefused : Option message.Reply → Reading
+-- a text that is none of the replies of its type is refused with 35
+abbrev pub orRefused : Option message.Reply → TextReading
 orRefused (some r) = reply r
 orRefused none = refused 35
 
-abbrev pub answerWith : Answer → List ℕ → Reading
-answerWith (Answer.Reply r) bytes = reply (replyOf r bytes)
-answerWith (Answer.Refused r) bytes = refused (numberOf r)
+-- ---- what the code's answer means
 
-abbrev pub reading : ReplyRead → Reading
-reading r = answerWith (r .answer) (r .bytes)
+abbrev pub readingWith : ReplyOrRefusal → List ℕ → TextReading
+readingWith (ReplyOrRefusal.Reply r) bytes = reply (replyOf r bytes)
+readingWith (ReplyOrRefusal.Refused r) bytes = refused (numberOf r)
+
+abbrev pub textReading : declared.TextReading → TextReading
+textReading r = readingWith (r .answer) (r .bytes)

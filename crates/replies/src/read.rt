@@ -3,85 +3,97 @@ ghost use mathlib.Core.List.{List};
 ghost use mathlib.Core.Option.{Option·map};
 ghost use mathlib.Core.Path.{_≡_};
 ghost use Prim.Native.Nat.{ℕ};
-ghost use Rattle.wire.specs.Digits.{bytesOf};
+ghost use lib.ListN.{length};
+ghost use Rattle.wire.specs.Digits.{octetsIn};
 ghost use mathlib.Core.Bool.{cond};
 ghost use Rattle.messages.specs.Message.Reply.{getReply, setReply, dateReadReply, itemReply};
-ghost use Rattle.messages.specs.Read.{replyIn, commandReplyIn, plainReplyIn, parameterIn, powerReadReplyIn, powerControlReplyIn, dateWriteReplyIn, tagWriteReplyIn, dateIn};
-ghost use Rattle.replies.specs.View.{reading, answerWith, orRefused};
+ghost use Rattle.messages.specs.View.{statusNumber};
+ghost use Rattle.messages.specs.Read.{replyIn, commandReplyIn, plainReplyIn, valuesIn, parameterIn, powerReadReplyIn, powerControlReplyIn, dateWriteReplyIn, tagWriteReplyIn, dateIn};
+ghost use Rattle.replies.specs.View.{textReading, readingWith, orRefused};
 use messages::message::DateAnswer;
 use messages::message::Item;
 use messages::message::Parameter;
 use messages::message::Reply;
+use messages::message::Status;
 use text_fields::DateField;
 use text_fields::ModeField;
-use text_fields::OutcomeField;
+use text_fields::StatusField;
 use wire::digits;
 use wire::digits::Octet;
 use wire::digits::Word;
+use wire::packet;
 use wire::refusal::Refusal;
 
 // A reply, or why there is none.
-pub enum Answer {
+pub enum ReplyOrRefusal {
     Reply(Reply),
     Refused(Refusal),
 }
 
 // What was read, with the bytes of a serial number, a model or a tag.
-pub struct ReplyRead {
-    pub answer: Answer,
+pub struct TextReading {
+    pub answer: ReplyOrRefusal,
     pub bytes: [u8; 16],
 }
 
 // The reply in the text of a packet of a type.
-pub fn read_reply(kind: u8, text: &[u8]) -> ReplyRead
-    ensures { λ r. ⌜ reading r ≡ orRefused (replyIn kind (now (text .entry))) ⌝ }
+pub fn read_reply(kind: u8, text: &[u8]) -> TextReading
+    ensures { λ r. ⌜ textReading r ≡ orRefused (replyIn kind (now (text .entry))) ⌝ }
 {
-    if kind == 0x44 {
+    if kind == packet::TYPE_D {
         return without_bytes(read_parameter(false, text));
     }
-    if kind == 0x46 {
+    if kind == packet::TYPE_F {
         return without_bytes(read_parameter(true, text));
     }
-    if kind == 0x42 {
+    if kind == packet::TYPE_B {
         return read_command_reply(text);
     }
-    without_bytes(Answer::Refused(Refusal::ReplyMessage))
+    without_bytes(ReplyOrRefusal::Refused(Refusal::ReplyMessage))
 }
 
 // An answer that has no bytes beside it.
-fn without_bytes(answer: Answer) -> ReplyRead
+fn without_bytes(answer: ReplyOrRefusal) -> TextReading
     ensures { λ r. ⌜ r .answer ≡ answer ⌝ }
 {
-    ReplyRead {
+    TextReading {
         answer,
         bytes: [0u8; 16],
     }
 }
 
 // Types D and F: result, page, code, operation type, max and value.
-fn read_parameter(set: bool, text: &[u8]) -> Answer
-    ensures { λ r. ⌜ ((bytes : List ℕ) → answerWith r bytes ≡ orRefused (parameterIn (cond set setReply getReply) (now (text .entry)))) ⌝ }
+fn read_parameter(set: bool, text: &[u8]) -> ReplyOrRefusal
+    ensures { λ r. ⌜ ((bytes : List ℕ) → readingWith r bytes ≡ orRefused (parameterIn (cond set setReply getReply) (now (text .entry)))) ⌝ }
 {
     if text.len() != 16 {
-        return Answer::Refused(Refusal::ReplyMessage);
+        return ReplyOrRefusal::Refused(Refusal::ReplyMessage);
     }
-    let OutcomeField::Is(result) = text_fields::outcome_at(text, 0) else {
-        return Answer::Refused(Refusal::ReplyMessage);
+    let StatusField::Is(result) = text_fields::status_at(text, 0) else {
+        return ReplyOrRefusal::Refused(Refusal::ReplyMessage);
     };
     let Octet::Value(page) = digits::two_at(text, 2) else {
-        return Answer::Refused(Refusal::ReplyMessage);
+        return ReplyOrRefusal::Refused(Refusal::ReplyMessage);
     };
     let Octet::Value(code) = digits::two_at(text, 4) else {
-        return Answer::Refused(Refusal::ReplyMessage);
+        return ReplyOrRefusal::Refused(Refusal::ReplyMessage);
     };
+    read_values(set, result, page, code, text)
+}
+
+// Operation type, max and value behind result, page and code.
+fn read_values(set: bool, result: Status, page: u8, code: u8, text: &[u8]) -> ReplyOrRefusal
+    requires { ⌜ length (now text) ≡ 16 ⌝ }
+    ensures { λ r. ⌜ ((bytes : List ℕ) → readingWith r bytes ≡ orRefused (valuesIn (cond set setReply getReply) (statusNumber result) page code (now (text .entry)))) ⌝ }
+{
     let Octet::Value(operation) = text_fields::flag_at(text, 6) else {
-        return Answer::Refused(Refusal::ReplyMessage);
+        return ReplyOrRefusal::Refused(Refusal::ReplyMessage);
     };
     let Word::Value(largest) = digits::four_at(text, 8) else {
-        return Answer::Refused(Refusal::ReplyMessage);
+        return ReplyOrRefusal::Refused(Refusal::ReplyMessage);
     };
     let Word::Value(value) = digits::four_at(text, 12) else {
-        return Answer::Refused(Refusal::ReplyMessage);
+        return ReplyOrRefusal::Refused(Refusal::ReplyMessage);
     };
     let parameter = Parameter {
         page,
@@ -91,14 +103,14 @@ fn read_parameter(set: bool, text: &[u8]) -> Answer
         value,
     };
     if set {
-        return Answer::Reply(Reply::Set(result, parameter));
+        return ReplyOrRefusal::Reply(Reply::Set(result, parameter));
     }
-    Answer::Reply(Reply::Got(result, parameter))
+    ReplyOrRefusal::Reply(Reply::Got(result, parameter))
 }
 
 // Type B.
-fn read_command_reply(text: &[u8]) -> ReplyRead
-    ensures { λ r. ⌜ reading r ≡ orRefused (commandReplyIn (now (text .entry))) ⌝ }
+fn read_command_reply(text: &[u8]) -> TextReading
+    ensures { λ r. ⌜ textReading r ≡ orRefused (commandReplyIn (now (text .entry))) ⌝ }
 {
     if text_fields::begins_with(b"C316", text) {
         return read_item_reply(Item::Serial, &text[4..]);
@@ -119,11 +131,11 @@ fn read_command_reply(text: &[u8]) -> ReplyRead
 }
 
 // Type B, replies without bytes.
-fn read_plain_reply(text: &[u8]) -> Answer
-    ensures { λ r. ⌜ ((bytes : List ℕ) → answerWith r bytes ≡ orRefused (plainReplyIn (now (text .entry)))) ⌝ }
+fn read_plain_reply(text: &[u8]) -> ReplyOrRefusal
+    ensures { λ r. ⌜ ((bytes : List ℕ) → readingWith r bytes ≡ orRefused (plainReplyIn (now (text .entry)))) ⌝ }
 {
     if text_fields::is_name(b"BE", text) {
-        return Answer::Reply(Reply::Null);
+        return ReplyOrRefusal::Reply(Reply::Null);
     }
     if text_fields::begins_with(b"C311", text) {
         return read_date_read_reply(&text[4..]);
@@ -138,103 +150,103 @@ fn read_plain_reply(text: &[u8]) -> Answer
 }
 
 // The bytes behind the name of an item.
-fn read_item_reply(item: Item, text: &[u8]) -> ReplyRead
-    ensures { λ r. ⌜ reading r ≡ orRefused (Option·map (itemReply item) (bytesOf (now (text .entry)))) ⌝ }
+fn read_item_reply(item: Item, text: &[u8]) -> TextReading
+    ensures { λ r. ⌜ textReading r ≡ orRefused (Option·map (itemReply item) (octetsIn (now (text .entry)))) ⌝ }
 {
-    let octets = digits::bytes_of(text);
+    let octets = digits::octets_in(text);
     let good = octets.good;
     if !good {
-        return without_bytes(Answer::Refused(Refusal::ReplyMessage));
+        return without_bytes(ReplyOrRefusal::Refused(Refusal::ReplyMessage));
     }
     let bytes = octets.bytes;
-    ReplyRead {
-        answer: Answer::Reply(Reply::Item(item, octets.count)),
+    TextReading {
+        answer: ReplyOrRefusal::Reply(Reply::Item(item, octets.count)),
         bytes,
     }
 }
 
 // Status and tag behind F111.
-fn read_tag_write_reply(text: &[u8]) -> ReplyRead
-    ensures { λ r. ⌜ reading r ≡ orRefused (tagWriteReplyIn (now (text .entry))) ⌝ }
+fn read_tag_write_reply(text: &[u8]) -> TextReading
+    ensures { λ r. ⌜ textReading r ≡ orRefused (tagWriteReplyIn (now (text .entry))) ⌝ }
 {
     if text.len() < 2 {
-        return without_bytes(Answer::Refused(Refusal::ReplyMessage));
+        return without_bytes(ReplyOrRefusal::Refused(Refusal::ReplyMessage));
     }
-    let OutcomeField::Is(status) = text_fields::outcome_at(text, 0) else {
-        return without_bytes(Answer::Refused(Refusal::ReplyMessage));
+    let StatusField::Is(status) = text_fields::status_at(text, 0) else {
+        return without_bytes(ReplyOrRefusal::Refused(Refusal::ReplyMessage));
     };
-    let octets = digits::bytes_of(&text[2..]);
+    let octets = digits::octets_in(&text[2..]);
     let good = octets.good;
     if !good {
-        return without_bytes(Answer::Refused(Refusal::ReplyMessage));
+        return without_bytes(ReplyOrRefusal::Refused(Refusal::ReplyMessage));
     }
     let bytes = octets.bytes;
-    ReplyRead {
-        answer: Answer::Reply(Reply::TagWritten(status, octets.count)),
+    TextReading {
+        answer: ReplyOrRefusal::Reply(Reply::TagWritten(status, octets.count)),
         bytes,
     }
 }
 
 // The date behind C311.
-fn read_date_read_reply(text: &[u8]) -> Answer
-    ensures { λ r. ⌜ ((bytes : List ℕ) → answerWith r bytes ≡ orRefused (Option·map dateReadReply (dateIn (now (text .entry))))) ⌝ }
+fn read_date_read_reply(text: &[u8]) -> ReplyOrRefusal
+    ensures { λ r. ⌜ ((bytes : List ℕ) → readingWith r bytes ≡ orRefused (Option·map dateReadReply (dateIn (now (text .entry))))) ⌝ }
 {
     let DateField::Is(date) = text_fields::date_in(text) else {
-        return Answer::Refused(Refusal::ReplyMessage);
+        return ReplyOrRefusal::Refused(Refusal::ReplyMessage);
     };
-    Answer::Reply(Reply::Date(DateAnswer::Read(date)))
+    ReplyOrRefusal::Reply(Reply::Date(DateAnswer::Read(date)))
 }
 
 // Status and date behind C312.
-fn read_date_write_reply(text: &[u8]) -> Answer
-    ensures { λ r. ⌜ ((bytes : List ℕ) → answerWith r bytes ≡ orRefused (dateWriteReplyIn (now (text .entry)))) ⌝ }
+fn read_date_write_reply(text: &[u8]) -> ReplyOrRefusal
+    ensures { λ r. ⌜ ((bytes : List ℕ) → readingWith r bytes ≡ orRefused (dateWriteReplyIn (now (text .entry)))) ⌝ }
 {
     if text.len() != 16 {
-        return Answer::Refused(Refusal::ReplyMessage);
+        return ReplyOrRefusal::Refused(Refusal::ReplyMessage);
     }
-    let OutcomeField::Is(status) = text_fields::outcome_at(text, 0) else {
-        return Answer::Refused(Refusal::ReplyMessage);
+    let StatusField::Is(status) = text_fields::status_at(text, 0) else {
+        return ReplyOrRefusal::Refused(Refusal::ReplyMessage);
     };
     let DateField::Is(date) = text_fields::date_in(&text[2..]) else {
-        return Answer::Refused(Refusal::ReplyMessage);
+        return ReplyOrRefusal::Refused(Refusal::ReplyMessage);
     };
-    Answer::Reply(Reply::Date(DateAnswer::Written(status, date)))
+    ReplyOrRefusal::Reply(Reply::Date(DateAnswer::Written(status, date)))
 }
 
 // Status, D6 00 0004 and mode behind 02.
-fn read_power_read_reply(text: &[u8]) -> Answer
-    ensures { λ r. ⌜ ((bytes : List ℕ) → answerWith r bytes ≡ orRefused (powerReadReplyIn (now (text .entry)))) ⌝ }
+fn read_power_read_reply(text: &[u8]) -> ReplyOrRefusal
+    ensures { λ r. ⌜ ((bytes : List ℕ) → readingWith r bytes ≡ orRefused (powerReadReplyIn (now (text .entry)))) ⌝ }
 {
     if text.len() != 14 {
-        return Answer::Refused(Refusal::ReplyMessage);
+        return ReplyOrRefusal::Refused(Refusal::ReplyMessage);
     }
-    let OutcomeField::Is(status) = text_fields::outcome_at(text, 0) else {
-        return Answer::Refused(Refusal::ReplyMessage);
+    let StatusField::Is(status) = text_fields::status_at(text, 0) else {
+        return ReplyOrRefusal::Refused(Refusal::ReplyMessage);
     };
     if !text_fields::begins_with(b"D6000004", &text[2..]) {
-        return Answer::Refused(Refusal::ReplyMessage);
+        return ReplyOrRefusal::Refused(Refusal::ReplyMessage);
     }
     let ModeField::Is(mode) = text_fields::mode_at(text, 10) else {
-        return Answer::Refused(Refusal::ReplyMessage);
+        return ReplyOrRefusal::Refused(Refusal::ReplyMessage);
     };
-    Answer::Reply(Reply::PowerStatus(status, mode))
+    ReplyOrRefusal::Reply(Reply::PowerStatus(status, mode))
 }
 
 // Status, C203D6 and mode.
-fn read_power_control_reply(text: &[u8]) -> Answer
-    ensures { λ r. ⌜ ((bytes : List ℕ) → answerWith r bytes ≡ orRefused (powerControlReplyIn (now (text .entry)))) ⌝ }
+fn read_power_control_reply(text: &[u8]) -> ReplyOrRefusal
+    ensures { λ r. ⌜ ((bytes : List ℕ) → readingWith r bytes ≡ orRefused (powerControlReplyIn (now (text .entry)))) ⌝ }
 {
     if text.len() != 12 {
-        return Answer::Refused(Refusal::ReplyMessage);
+        return ReplyOrRefusal::Refused(Refusal::ReplyMessage);
     }
-    let OutcomeField::Is(status) = text_fields::outcome_at(text, 0) else {
-        return Answer::Refused(Refusal::ReplyMessage);
+    let StatusField::Is(status) = text_fields::status_at(text, 0) else {
+        return ReplyOrRefusal::Refused(Refusal::ReplyMessage);
     };
     if !text_fields::begins_with(b"C203D6", &text[2..]) {
-        return Answer::Refused(Refusal::ReplyMessage);
+        return ReplyOrRefusal::Refused(Refusal::ReplyMessage);
     }
     let Word::Value(mode) = digits::four_at(text, 8) else {
-        return Answer::Refused(Refusal::ReplyMessage);
+        return ReplyOrRefusal::Refused(Refusal::ReplyMessage);
     };
-    Answer::Reply(Reply::PowerControl(status, mode))
+    ReplyOrRefusal::Reply(Reply::PowerControl(status, mode))
 }

@@ -1,26 +1,36 @@
--- What the encoder says: a refusal leaves the buffer as it was, the text of a request fits a packet of 64 bytes, since at most 16 bytes stand beside it, and most requests are in range.
-use borrow.Author.Tests.{le-leb}
+-- What the encoder says: the text of a request fits a packet of 64 bytes, since at most 16 bytes stand beside it; which requests are in range;
+-- and a law for each way through the encoder.
+use borrow.Author.Tests.{lt-ltb, le-ltb, le-leb, lt-leb, not-true, not-false}
 use types.Run.{OneOf, miss}
 use denote.Enum.Declared.{tagOf}
-use mathlib.Core.Bool.{true, false}
+use mathlib.Core.Bool.{Bool, true, false, not, _||_}
 use mathlib.Core.List.{List, [], _∷_}
 use mathlib.Core.Option.{Option, none, some}
 use mathlib.Core.Path.{_≡_, refl, sym}
-use Prim.Native.Nat.{ℕ, _≤_}
+use Prim.Native.Nat.{ℕ, _≤_, _<_}
 use native.Mathlib.Nat.{min-le-left}
 use native.Mathlib.Omega.{arith}
+use lib.Dec.{eqb}
 use lib.ListN.{length, take, length-take}
+use lib.Seq.{take-length}
+use Rattle.wire.specs.Packet.{leastBuffer, over, requestPacket}
 use Rattle.wire.specs.Refusal.{numberOf}
 use Rattle.wire.specs.declared.refusal.Refusal.{Refusal}
 use Rattle.wire.proofs.DigitLaws.{hex-length}
 use Rattle.messages.specs.Message as message
-use Rattle.messages.specs.Text.{dateText, requestText}
-use Rattle.messages.specs.View.{requestOf, requestCount}
-use Rattle.messages.proofs.SendLaws.{Short}
+use Rattle.messages.specs.Text.{dateText, requestType, requestText}
+use Rattle.messages.specs.View.{requestOf}
+use Rattle.messages.specs.Inner.{requestCount, Writes}
+use Rattle.messages.proofs.SendLaws.{Short, text-first}
+use Rattle.messages.specs.declared.message.Date.{Date}
 use Rattle.messages.specs.declared.message.Item.{Item}
 use Rattle.messages.specs.declared.message.Request.{Request}
+use Rattle.messages.specs.declared.write.Written.{Written}
 use Rattle.messages.proofs.message.Request.{the-type}
-use Rattle.station.specs.Encode.{Encoding, refused, addressIn, isInRange, encodingTo, encodingOf, Encodes}
+use Rattle.store.specs.Contents.{isAccepted}
+use Rattle.station.specs.Encode.{Encoding, refused, addressIn, isInRange, encodingTo, encodingOf, encoding, Encodes}
+use Rattle.station.specs.Inner.{addressAs, TellsRange}
+use Rattle.station.specs.declared.encode.Address.{Address}
 use Rattle.station.specs.declared.encode.Destination.{Destination}
 use Rattle.station.specs.declared.encode.Encoded.{Encoded}
 
@@ -57,27 +67,78 @@ request-text-fits (Request.TagWrite n) bytes h =
 abbrev withoutRange : List ℕ
 withoutRange = 0 ∷ 1 ∷ 2 ∷ 4 ∷ 6 ∷ 7 ∷ []
 
-pub others-in-range : (r : Request) (bytes : List ℕ) → requestCount r ≤ 16 → OneOf withoutRange (tagOf the-type r) → true ≡ isInRange (requestOf r bytes)
-others-in-range (Request.Get page code) bytes h k = refl
-others-in-range (Request.Set page code value) bytes h k = refl
-others-in-range Request.PowerRead bytes h k = refl
-others-in-range (Request.PowerControl mode) bytes h k = absurd (miss withoutRange 3 tt k)
-others-in-range Request.DateRead bytes h k = refl
-others-in-range (Request.DateWrite d) bytes h k = absurd (miss withoutRange 5 tt k)
-others-in-range (Request.ItemRead i) bytes h k = refl
-others-in-range (Request.TagWrite n) bytes h k = sym (le-leb (length (take n bytes)) 16 (taken-few n bytes h))
+other-in-range : (r : Request) (bytes : List ℕ) → requestCount r ≤ 16 → OneOf withoutRange (tagOf the-type r) → true ≡ isInRange (requestOf r bytes)
+other-in-range (Request.Get page code) bytes h k = refl
+other-in-range (Request.Set page code value) bytes h k = refl
+other-in-range Request.PowerRead bytes h k = refl
+other-in-range (Request.PowerControl mode) bytes h k = absurd (miss withoutRange 3 tt k)
+other-in-range Request.DateRead bytes h k = refl
+other-in-range (Request.DateWrite d) bytes h k = absurd (miss withoutRange 5 tt k)
+other-in-range (Request.ItemRead i) bytes h k = refl
+other-in-range (Request.TagWrite n) bytes h k = sym (le-leb (length (take n bytes)) 16 (taken-few n bytes h))
 
--- ---- refusals
+module _ (r : Request) where
+  pub mode-range : (mode : ℕ) → r ≡ Request.PowerControl mode → TellsRange (eqb mode 1 || eqb mode 4) r
+  mode-range mode e = record { told = λ bytes. rw e }
 
-pub refused-leaves : (e : Encoding) (r : Refusal) (out : List ℕ) → e ≡ refused (numberOf r) → Encodes e (Encoded.Refused r) out out
+  pub date-range : (d : Date) (good : Bool) → r ≡ Request.DateWrite d → good ≡ isAccepted d → TellsRange good r
+  date-range d good e q = record { told = λ bytes. rw e q }
+
+  pub others-range : requestCount r ≤ 16 → OneOf withoutRange (tagOf the-type r) → TellsRange true r
+  others-range h k = record { told = λ bytes. other-in-range r bytes h k }
+
+-- ---- each way through the encoder
+
+refused-leaves : (e : Encoding) (r : Refusal) (out : List ℕ) → e ≡ refused (numberOf r) → Encodes e (Encoded.Refused r) out out
 refused-leaves e r out q = rw q (record { answer = refl; buffer = refl })
+
+module _ (dest : Destination) (good : Bool) (type : ℕ) (text out : List ℕ) where
+  abbrev wanted : Encoding
+  wanted = encodingOf (length out) dest good type text
+
+  pub short-refused : length out < leastBuffer → Encodes wanted (Encoded.Refused Refusal.ShortBuffer) out out
+  unfolding encodingOf
+  short-refused h = refused-leaves wanted Refusal.ShortBuffer out (rw (lt-ltb (length out) leastBuffer h))
+
+  module _ (room : leastBuffer ≤ length out) (a : Address) (told : addressAs a ≡ addressIn dest) where
+    pub unknown-refused : a ≡ Address.Unknown → Encodes wanted (Encoded.Refused Refusal.MonitorId) out out
+    unfolding encodingOf
+    unknown-refused e = refused-leaves wanted Refusal.MonitorId out (rw (le-ltb (length out) leastBuffer room, ← told, e))
+
+    module _ (address : ℕ) (known : a ≡ Address.Byte address) where
+      pub value-refused : not good ≡ true → Encodes wanted (Encoded.Refused Refusal.Value) out out
+      unfolding encodingOf
+      value-refused e = refused-leaves wanted Refusal.Value out (rw (le-ltb (length out) leastBuffer room, ← told, known, not-true good e))
+
+      pub sent : (w : Written) (before after : List ℕ) (n : ℕ) (filled : List ℕ) → Writes type text w before after
+          → n ≡ length (requestPacket address (w .kind) (take (w .length) after))
+          → filled ≡ over (requestPacket address (w .kind) (take (w .length) after)) out → not good ≡ false
+          → Encodes wanted (Encoded.Length n) out filled
+      unfolding encodingOf
+      sent w before after n filled writes count put e =
+          rw (le-ltb (length out) leastBuffer room, ← told, known, not-false good e, ← text-first type text w before after writes, ← writes .kind)
+          (record { answer = count; buffer = put })
+
+-- a request is encoded by whether it is in range
+pub request-encoded : (room : ℕ) (dest : Destination) (request : Request) (bytes : List ℕ) (good : Bool) (e : Encoded) (before after : List ℕ)
+    → TellsRange good request
+    → Encodes (encodingOf room dest good (requestType (requestOf request bytes)) (requestText (requestOf request bytes))) e before after
+    → Encodes (encoding room dest (requestOf request bytes)) e before after
+request-encoded room dest request bytes good e before after range p = rw (← range .told bytes) p
+
+-- ---- a tag write
 
 -- what is not good is refused whatever the request
 bad-to-alike : (address : Option ℕ) (k l : ℕ) (s t : List ℕ) → encodingTo address false k s ≡ encodingTo address false l t
 bad-to-alike none k l s t = refl
 bad-to-alike (some a) k l s t = refl
 
-pub bad-alike : (room : ℕ) (dest : Destination) (k l : ℕ) (s t : List ℕ) {r : Encoded} {before after : List ℕ}
-    → Encodes (encodingOf room dest false k s) r before after → Encodes (encodingOf room dest false l t) r before after
-unfolding encodingOf
-bad-alike room dest k l s t e = rw (bad-to-alike (addressIn dest) l k t s) e
+module _ (room : ℕ) (dest : Destination) (tag : List ℕ) (e : Encoded) (before after : List ℕ) where
+  pub long-tag : (k : ℕ) (s : List ℕ) → Encodes (encodingOf room dest false k s) e before after → 16 < length tag
+      → Encodes (encoding room dest (message.tagWrite tag)) e before after
+  unfolding encodingOf
+  long-tag k s p h = rw (lt-leb (length tag) 16 h, bad-to-alike (addressIn dest) _ k _ s) p
+
+  pub short-tag : Encodes (encoding room dest (requestOf (Request.TagWrite (length tag)) tag)) e before after
+      → Encodes (encoding room dest (message.tagWrite tag)) e before after
+  short-tag p = rw (take-length tag) at p

@@ -1,6 +1,5 @@
 -- A packet that the reader takes is refused once one byte of it is changed: two lists that pass the tests and differ in one place at most are the same.
-use borrow.Author.Tests.{ltb-false, eqb-true, not-false}
-use mathlib.Core.Bool.{not}
+use borrow.Author.Tests.{eqb-true}
 use mathlib.Core.List.{List, [], _∷_}
 use mathlib.Core.Logic.{⊎-elim}
 use mathlib.Core.Option.{Option, none, some}
@@ -10,27 +9,24 @@ use native.Mathlib.Nat.{not-suc-le-zero, le-of-suc-le-suc, eq-or-lt-of-le}
 use native.Mathlib.Omega.{arith}
 use lib.Arith.{bin-ind}
 use lib.Bits.{bitXor, xor-comm, xor-shr, xor-add-and}
-use lib.Dec.{ltb, eqb}
 use lib.ListN.{length, getD, take, drop, set, length-set, length-take}
 use lib.Seq.{getD-set-same, getD-set-other, getD-take, take-set-le, take-set-lt}
-use Rattle.wire.specs.Packet.{soh, cr, xorFrom, xorOf, size, checkCode, textOf}
-use Rattle.wire.specs.Judge.{Verdict, packetVerdict, Whole}
+use Rattle.wire.specs.Packet.{soh, cr, addressBase, xorFrom, xorOf, size, checkCode}
+use Rattle.wire.specs.Judge.{endsInReturn, hasCheckCode}
 use Rattle.wire.specs.Judge as judge
-use Rattle.wire.proofs.DigitLaws.{cond-by}
-use Rattle.wire.proofs.PacketLaws.{good-passed}
 use Rattle.messages.specs.Message.{Reply}
-use Rattle.messages.specs.Read.{replyIn}
+use Rattle.replies.specs.View.{orRefused}
 use Rattle.station.specs.Read.{
-  Reads,
+  PacketReading,
   reply,
   refused,
-  isReplyHeader,
-  isWholeLength,
-  judgedAs,
-  readAs,
+  sentBy,
+  replyInMessage,
+  replyVerdict,
+  unlessRefused,
   readPacket,
 }
-use Rattle.station.proofs.ReadLaws.{start-of-reply, whole-packet}
+use Rattle.station.proofs.ReadLaws.{good-reply}
 
 -- ---- an exclusive or is another once one of its numbers is
 
@@ -62,42 +58,33 @@ record Taken (p : List ℕ) : Type 0 where
   end : getD p (length p - 1) 0 ≡ cr
 
 -- what a reply shows of the list it was read from
-abbrev Shows : List ℕ → Reads → Type 0
+abbrev Shows : List ℕ → PacketReading → Type 0
 Shows p (reply id r) = Taken p
 Shows p (refused n) = Unit {0}
 
 module _ (p : List ℕ) where
-  judged-shows : (v : Verdict) (x : Reads) → (v ≡ judge.good → Shows p x) → Shows p (judgedAs v x)
-  judged-shows judge.good x f = f refl
-  judged-shows (judge.refused n) x f = tt
-
-  read-shows : (id : ℕ) (o : Option Reply) → Taken p → Shows p (readAs id o)
+  read-shows : (id : ℕ) (o : Option Reply) → Taken p → Shows p (sentBy id (orRefused o))
   read-shows id none t = tt
   read-shows id (some r) t = t
 
-  good-taken : Whole p → getD p 0 0 ≡ soh → packetVerdict p ≡ judge.good → Taken p
-  unfolding packetVerdict checkCode
-  good-taken w start e =
+  good-taken : replyVerdict p ≡ judge.good → Taken p
+  unfolding endsInReturn hasCheckCode checkCode
+  good-taken e =
+      let g = good-reply p e in
       let n = size p in
-      let sum = xorOf (take (n - 3) (drop 1 p)) in
-      let end = good-passed (eqb (getD p (n - 1) 0) cr) 5 _ e in
-      let code = good-passed (eqb (getD p (n - 2) 0) sum) 6 _ (end .1) in
       record {
-        start = start;
-        code = rw (w .sized) at (eqb-true (getD p (n - 2) 0) sum (code .0));
-        end = rw (w .sized) at (eqb-true (getD p (n - 1) 0) cr (end .0));
+        start = g .start;
+        code = rw (g .whole .sized) at (eqb-true (getD p (n - 2) 0) (xorOf (take (n - 3) (drop 1 p))) (g .code));
+        end = rw (g .whole .sized) at (eqb-true (getD p (n - 1) 0) cr (g .end));
       }
+
+  judged-shows : (v : judge.Verdict) (x : PacketReading) → (v ≡ judge.good → Shows p x) → Shows p (unlessRefused v x)
+  judged-shows judge.good x f = f refl
+  judged-shows (judge.refused n) x f = tt
 
   read-taken : Shows p (readPacket p)
   unfolding readPacket
-  read-taken =
-      cond-by (Shows p) (ltb (length p) 13) _ _ (λ _. tt)
-      (λ long. cond-by (Shows p) (not (isReplyHeader p)) _ _ (λ _. tt)
-      (λ header. cond-by (Shows p) (not (isWholeLength p)) _ _ (λ _. tt)
-      (λ sized. judged-shows (packetVerdict p) _
-      (λ good. read-shows (getD p 3 0 - 0x40) (replyIn (getD p 4 0) (textOf p))
-      (good-taken (whole-packet p (ltb-false (length p) 13 long) (not-false (isWholeLength p) sized))
-      (start-of-reply p (not-false (isReplyHeader p) header)) good)))))
+  read-taken = judged-shows (replyVerdict p) _ (λ e. read-shows (getD p 3 0 - addressBase) (replyInMessage p) (good-taken e))
 
 -- ---- two lists that the reader takes, alike but for one place
 
@@ -144,10 +131,10 @@ one-same (x ∷ t) (suc k) b h was now = behind-same x k b t (le-of-suc-le-suc h
 -- ---- refused
 
 -- refused, with any number
-pub data Refused : Reads → Type 0 where
+pub data Refused : PacketReading → Type 0 where
   is-refused : (n : ℕ) → Refused (refused n)
 
-refused-unless : (p : List ℕ) (x : Reads) → Shows p x → (Taken p → ⊥) → Refused x
+refused-unless : (p : List ℕ) (x : PacketReading) → Shows p x → (Taken p → ⊥) → Refused x
 refused-unless p (reply id r) t f = absurd (f t)
 refused-unless p (refused n) t f = is-refused n
 

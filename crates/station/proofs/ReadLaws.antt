@@ -1,25 +1,23 @@
--- What the reader's tests say of a packet, what a refusal of a packet is to the station, and what a reply is with its sender.
-use borrow.Author.Tests.{leb-true, eqb-true}
-use types.Run.{OneOf, miss}
-use denote.Enum.Declared.{tagOf}
-use mathlib.Core.Bool.{Bool, true, _&&_}
-use mathlib.Core.List.{List, [], _∷_}
-use mathlib.Core.Option.{Option, none, some}
+-- What the reader's tests say of a packet.
+use borrow.Author.Tests.{leb-true, eqb-true, ltb-false}
+use mathlib.Core.Bool.{Bool, true, false, cond, _&&_}
+use mathlib.Core.List.{List}
 use mathlib.Core.Path.{_≡_, refl}
 use Prim.Native.Nat.{ℕ, _-_, _≤_}
 use native.Mathlib.Omega.{arith}
-use lib.Dec.{leb, eqb}
+use lib.Dec.{leb, ltb, eqb}
 use lib.ListN.{length, getD, take, drop}
-use Rattle.wire.specs.Packet.{soh, zeroByte, size, textOf}
-use Rattle.wire.specs.Judge.{isLength, Whole}
-use Rattle.wire.specs.Refusal.{numberOf}
-use Rattle.wire.specs.declared.refusal.Refusal.{Refusal}
-use Rattle.wire.proofs.refusal.Refusal.{the-type}
-use Rattle.store.proofs.StoreLaws.{both}
-use Rattle.messages.specs.Message.{Reply}
-use Rattle.replies.specs.View.{answerWith, orRefused}
-use Rattle.replies.specs.declared.read.Answer.{Answer}
-use Rattle.station.specs.Read.{isSource, isReplyType, isReplyHeader, isWholeLength, readerNumber, readAs, answerAs}
+use Rattle.wire.specs.Packet.{soh, zeroByte, addressBase, leastPacket, size, packetText}
+use Rattle.wire.specs.Judge.{Verdict, good, refused, isLength, endsInReturn, hasCheckCode}
+use Rattle.wire.specs.Inner.{Whole}
+use Rattle.wire.proofs.Tests.{both}
+use Rattle.wire.proofs.PacketLaws.{good-passed}
+use Rattle.station.specs.Read.{isSource, isReplyType, isReplyHeader, isWholeLength, replyVerdict}
+
+-- a test that a good verdict has not met
+good-passed-not : (t : Bool) (n : ℕ) (v : Verdict) → cond t (refused n) v ≡ good → (t ≡ false) × (v ≡ good)
+good-passed-not false n v e = (refl, e)
+good-passed-not true n v e = let z : _≡_ {A = ℕ} 0 1 = cc in absurd (omega arith)
 
 module _ (p : List ℕ) where
   -- the three bytes that are the same in every reply
@@ -47,46 +45,32 @@ module _ (p : List ℕ) where
   unfolding isWholeLength
   whole-packet h e = record { least = h; sized = eqb-true (size p) (length p) (both (isLength p) (eqb (size p) (length p)) e .1) }
 
-  pub text-of-whole : Whole p → take (length p - 3 - 8) (drop 8 p) ≡ textOf p
-  unfolding textOf
+  -- what a packet that is not refused with 30 to 34 is
+  pub record GoodReply : Type 0 where
+    pub whole : Whole p
+    pub start : getD p 0 0 ≡ soh
+    pub monitor : addressBase ≤ getD p 3 0
+    pub end : endsInReturn p ≡ true
+    pub code : hasCheckCode p ≡ true
+
+  pub good-reply : replyVerdict p ≡ good → GoodReply
+  unfolding replyVerdict
+  good-reply e =
+      let long = good-passed-not (ltb (length p) leastPacket) 30 _ e in
+      let header = good-passed (isReplyHeader p) 31 _ (long .1) in
+      let sized = good-passed (isWholeLength p) 32 _ (header .1) in
+      let end = good-passed (endsInReturn p) 33 _ (sized .1) in
+      let code = good-passed (hasCheckCode p) 34 good (end .1) in
+      record {
+        whole = whole-packet (ltb-false (length p) leastPacket (long .0)) (sized .0);
+        start = start-of-reply (header .0);
+        monitor = omega (arith, source-of-reply (header .0));
+        end = end .0;
+        code = code .0;
+      }
+
+  pub text-of-whole : Whole p → take (length p - 3 - 8) (drop 8 p) ≡ packetText p
+  unfolding packetText
   text-of-whole w =
       let e : length p - 3 - 8 ≡ size p - 11 = omega arith in
       rw e
-
--- the places of all refusals but one
-abbrev allButNoReturn : List ℕ
-allButNoReturn = 0 ∷ 1 ∷ 2 ∷ 3 ∷ 5 ∷ 6 ∷ 7 ∷ 8 ∷ 9 ∷ 10 ∷ 11 ∷ 12 ∷ 13 ∷ 14 ∷ 15 ∷ 16 ∷ 17 ∷ 18 ∷ 19 ∷ 20 ∷ []
-
-abbrev allButCheckCode : List ℕ
-allButCheckCode = 0 ∷ 1 ∷ 2 ∷ 3 ∷ 4 ∷ 6 ∷ 7 ∷ 8 ∷ 9 ∷ 10 ∷ 11 ∷ 12 ∷ 13 ∷ 14 ∷ 15 ∷ 16 ∷ 17 ∷ 18 ∷ 19 ∷ 20 ∷ []
-
--- every refusal but that of the last byte and that of the check code is 35 to the station
-pub other-refusals : (r : Refusal) → OneOf allButNoReturn (tagOf the-type r) → OneOf allButCheckCode (tagOf the-type r) → 35 ≡ readerNumber (numberOf r)
-other-refusals Refusal.NoStart k l = refl
-other-refusals Refusal.Header k l = refl
-other-refusals Refusal.MessageType k l = refl
-other-refusals Refusal.Length k l = refl
-other-refusals Refusal.NoReturn k l = absurd (miss allButNoReturn 4 tt k)
-other-refusals Refusal.CheckCode k l = absurd (miss allButCheckCode 5 tt l)
-other-refusals Refusal.Message k l = refl
-other-refusals Refusal.Destination k l = refl
-other-refusals Refusal.ErasePending k l = refl
-other-refusals Refusal.ShortBuffer k l = refl
-other-refusals Refusal.NotAStore k l = refl
-other-refusals Refusal.Unsound k l = refl
-other-refusals Refusal.NoErasePending k l = refl
-other-refusals Refusal.MonitorId k l = refl
-other-refusals Refusal.Value k l = refl
-other-refusals Refusal.ReplyShort k l = refl
-other-refusals Refusal.ReplyHeader k l = refl
-other-refusals Refusal.ReplyLength k l = refl
-other-refusals Refusal.ReplyNoReturn k l = refl
-other-refusals Refusal.ReplyCheckCode k l = refl
-other-refusals Refusal.ReplyMessage k l = refl
-
--- what the parser answers, with a sender
-pub with-sender : (id : ℕ) (a : Answer) (bytes : List ℕ) (o : Option Reply) → answerWith a bytes ≡ orRefused o → answerAs a id bytes ≡ readAs id o
-with-sender id (Answer.Reply r) bytes (some q) e = cc
-with-sender id (Answer.Reply r) bytes none e = cc
-with-sender id (Answer.Refused r) bytes (some q) e = cc
-with-sender id (Answer.Refused r) bytes none e = cc

@@ -1,4 +1,4 @@
--- The encoder (document 01, 'Station'): refusals 10, 20 and 21 in this order, or the packet of a request.
+-- The encoder (docs/RULES.md, 'Station', EN1): refusals 10, 20 and 21 in this order, or the packet of a request.
 use mathlib.Core.Bool.{Bool, true, cond, _&&_, _||_}
 use mathlib.Core.List.{List}
 use mathlib.Core.Option.{Option, none, some}
@@ -6,7 +6,7 @@ use mathlib.Core.Path.{_≡_}
 use Prim.Native.Nat.{ℕ}
 use lib.Dec.{ltb, leb, eqb}
 use lib.ListN.{length}
-use Rattle.wire.specs.Packet.{addressOf, allAddress, requestPacket, over}
+use Rattle.wire.specs.Packet.{leastId, mostId, addressOf, allAddress, leastBuffer, requestPacket, over}
 use Rattle.wire.specs.Refusal.{numberOf}
 use Rattle.messages.specs.Message.{Request}
 use Rattle.messages.specs.Message.Request.{getParameter, setParameter, powerRead, powerControl, dateRead, dateWrite, itemRead, tagWrite}
@@ -14,16 +14,15 @@ use Rattle.messages.specs.Text.{requestType, requestText}
 use Rattle.store.specs.Contents.{isAccepted}
 use Rattle.station.specs.declared.encode.Destination.{Destination}
 use Rattle.station.specs.declared.encode.Encoded.{Encoded}
-use Rattle.station.specs.declared.encode.Address.{Address}
 
 -- a packet to send, or a refusal
 pub data Encoding : Type 0 where
   sends : List ℕ → Encoding
   refused : ℕ → Encoding
 
--- the address of a destination: ID 1 to 8, or ALL
+-- the address of a destination: an ID that is one, or ALL
 abbrev pub addressIn : Destination → Option ℕ
-addressIn (Destination.Id n) = cond (leb 1 n && leb n 8) (some (addressOf n)) none
+addressIn (Destination.Id n) = cond (leb leastId n && leb n mostId) (some (addressOf n)) none
 addressIn Destination.All = some allAddress
 
 -- each value in its range: modes 1 and 4, a date that a date write accepts, a tag of at most 16 bytes; Get and Set take any
@@ -37,13 +36,13 @@ isInRange (dateWrite d) = isAccepted d
 isInRange (itemRead i) = true
 isInRange (tagWrite tag) = leb (length tag) 16
 
--- to an address, of a type and a text whose values are in range or not
-abbrev pub encodingTo : Option ℕ → Bool → ℕ → List ℕ → Encoding
-encodingTo none good kind text = refused 20
-encodingTo (some dest) good kind text = cond good (sends (requestPacket dest kind text)) (refused 21)
+-- to an address, of a type and a text: 20 where there is no address, 21 where a value is outside its range
+abbrev pub encodingTo : Option ℕ → (inRange : Bool) → ℕ → List ℕ → Encoding
+encodingTo none inRange kind text = refused 20
+encodingTo (some address) inRange kind text = cond inRange (sends (requestPacket address kind text)) (refused 21)
 
-unfoldable pub encodingOf : ℕ → Destination → Bool → ℕ → List ℕ → Encoding
-encodingOf room dest good kind text = cond (ltb room 64) (refused 10) (encodingTo (addressIn dest) good kind text)
+unfoldable pub encodingOf : ℕ → Destination → (inRange : Bool) → ℕ → List ℕ → Encoding
+encodingOf room dest inRange kind text = cond (ltb room leastBuffer) (refused 10) (encodingTo (addressIn dest) inRange kind text)
 
 -- what encoding a request into a buffer with so much room gives
 abbrev pub encoding : ℕ → Destination → Request → Encoding
@@ -65,7 +64,3 @@ bufferAs (refused k) buffer = buffer
 pub record Encodes (e : Encoding) (r : Encoded) (before after : List ℕ) : Type 0 where
   pub answer : encodedAs e r
   pub buffer : after ≡ bufferAs e before
-
-abbrev pub addressAs : Address → Option ℕ
-addressAs (Address.Byte b) = some b
-addressAs Address.Unknown = none

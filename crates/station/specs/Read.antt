@@ -1,32 +1,36 @@
--- The reader (document 01, 'Station'): refusals 30 to 35 in this order, or the reply in one whole packet, with its sender.
+-- The reader (docs/RULES.md, 'Station', RD1): refusals 30 to 35 in this order, or the reply in one whole packet, with its sender.
 use mathlib.Core.Bool.{Bool, cond, not, _&&_, _||_}
 use mathlib.Core.List.{List}
-use mathlib.Core.Option.{Option, none, some}
+use mathlib.Core.Option.{Option, none}
 use Prim.Native.Nat.{ℕ, _-_}
 use lib.Dec.{ltb, leb, eqb}
 use lib.ListN.{length, getD}
-use Rattle.wire.specs.Packet.{soh, zeroByte, size, textOf}
-use Rattle.wire.specs.Judge.{Verdict, isLength, packetVerdict}
+use Rattle.wire.specs.Packet.{soh, zeroByte, leastId, mostId, addressBase, addressOf, typeB, typeD, typeF, leastPacket, size, packetText}
+use Rattle.wire.specs.Judge.{Verdict, isLength, endsInReturn, hasCheckCode, isMessage}
 use Rattle.wire.specs.Judge as judge
-use Rattle.wire.specs.Refusal.{numberOf}
 use Rattle.messages.specs.Message.{Reply}
 use Rattle.messages.specs.Read.{replyIn}
-use Rattle.messages.specs.View.{replyOf}
-use Rattle.replies.specs.declared.read.Answer.{Answer}
-use Rattle.station.specs.declared.read.Reading.{Reading}
+use Rattle.replies.specs.View.{TextReading, readingWith, orRefused}
+use Rattle.replies.specs.View as text
+use Rattle.station.specs.declared.read.PacketReading as declared
 
 -- a reply with its sender's ID, or a refusal
-pub data Reads : Type 0 where
-  reply : ℕ → Reply → Reads
-  refused : ℕ → Reads
+pub data PacketReading : Type 0 where
+  reply : ℕ → Reply → PacketReading
+  refused : ℕ → PacketReading
 
--- monitors 1 to 8
+-- what is read of a text, with the sender's ID
+abbrev pub sentBy : ℕ → TextReading → PacketReading
+sentBy id (text.reply r) = reply id r
+sentBy id (text.refused n) = refused n
+
+-- the address of a monitor
 abbrev pub isSource : ℕ → Bool
-isSource b = leb 0x41 b && leb b 0x48
+isSource b = leb (addressOf leastId) b && leb b (addressOf mostId)
 
 -- replies have type B, D or F
 abbrev pub isReplyType : ℕ → Bool
-isReplyType kind = eqb kind 0x42 || (eqb kind 0x44 || eqb kind 0x46)
+isReplyType kind = eqb kind typeB || (eqb kind typeD || eqb kind typeF)
 
 -- SOH, the reserved byte and the station's address; the source; the type
 unfoldable pub isReplyHeader : List ℕ → Bool
@@ -37,30 +41,28 @@ isReplyHeader p =
 unfoldable pub isWholeLength : List ℕ → Bool
 isWholeLength p = isLength p && eqb (size p) (length p)
 
--- no CR, 5 at the board, is 33 here; the check code 34; STX or ETX missing 35
-abbrev pub readerNumber : ℕ → ℕ
-readerNumber n = cond (eqb n 5) 33 (cond (eqb n 6) 34 35)
+-- the reply in the message of a packet; none where STX or ETX is missing
+unfoldable pub replyInMessage : List ℕ → Option Reply
+replyInMessage p = cond (isMessage p) (replyIn (getD p 4 0) (packetText p)) none
 
-abbrev pub judgedAs : Verdict → Reads → Reads
-judgedAs judge.good r = r
-judgedAs (judge.refused n) r = refused (readerNumber n)
+-- refusals 30 to 34
+unfoldable pub replyVerdict : List ℕ → Verdict
+replyVerdict p =
+    cond (ltb (length p) leastPacket) (judge.refused 30)
+    (cond (not (isReplyHeader p)) (judge.refused 31)
+    (cond (not (isWholeLength p)) (judge.refused 32)
+    (cond (not (endsInReturn p)) (judge.refused 33)
+    (cond (not (hasCheckCode p)) (judge.refused 34) judge.good))))
 
-abbrev pub readAs : ℕ → Option Reply → Reads
-readAs id (some r) = reply id r
-readAs id none = refused 35
+abbrev pub unlessRefused : Verdict → PacketReading → PacketReading
+unlessRefused judge.good r = r
+unlessRefused (judge.refused n) r = refused n
 
-unfoldable pub readPacket : List ℕ → Reads
-readPacket p =
-    cond (ltb (length p) 13) (refused 30)
-    (cond (not (isReplyHeader p)) (refused 31)
-    (cond (not (isWholeLength p)) (refused 32)
-    (judgedAs (packetVerdict p) (readAs (getD p 3 0 - 0x40) (replyIn (getD p 4 0) (textOf p))))))
+-- then the reply, or 35
+unfoldable pub readPacket : List ℕ → PacketReading
+readPacket p = unlessRefused (replyVerdict p) (sentBy (getD p 3 0 - addressBase) (orRefused (replyInMessage p)))
 
 -- ---- what the code's answer means
 
-abbrev pub answerAs : Answer → ℕ → List ℕ → Reads
-answerAs (Answer.Reply r) id bytes = reply id (replyOf r bytes)
-answerAs (Answer.Refused r) id bytes = refused (numberOf r)
-
-abbrev pub reads : Reading → Reads
-reads r = answerAs (r .answer) (r .sender) (r .bytes)
+abbrev pub packetReading : declared.PacketReading → PacketReading
+packetReading r = sentBy (r .sender) (readingWith (r .answer) (r .bytes))

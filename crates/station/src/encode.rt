@@ -1,12 +1,13 @@
 // Requests written as packets into a lent buffer.
-ghost use mathlib.Core.List.{List};
 ghost use mathlib.Core.Path.{_≡_};
-ghost use Prim.Native.Nat.{ℕ, _≤_};
+ghost use Prim.Native.Nat.{_≤_};
 ghost use lib.ListN.{length};
 ghost use Rattle.messages.specs.Message as message;
 ghost use Rattle.messages.specs.Text.{requestType, requestText};
-ghost use Rattle.messages.specs.View.{requestOf, requestCount, Beside};
-ghost use Rattle.station.specs.Encode.{addressIn, isInRange, encodingOf, encoding, Encodes, addressAs};
+ghost use Rattle.messages.specs.View.{requestOf};
+ghost use Rattle.messages.specs.Inner.{requestCount, Beside};
+ghost use Rattle.station.specs.Encode.{addressIn, encodingOf, encoding, Encodes};
+ghost use Rattle.station.specs.Inner.{addressAs, TellsRange};
 use messages::message::Date;
 use messages::message::Item;
 use messages::message::Request;
@@ -27,7 +28,14 @@ pub enum Encoded {
     Refused(Refusal),
 }
 
-// The address byte of a destination.
+// The least and the largest ID, and the number that an ID's address is counted from, as wide as a destination's number.
+const LEAST_ID: u16 = packet::LEAST_ID as u16;
+
+const MOST_ID: u16 = packet::MOST_ID as u16;
+
+const ADDRESS_BASE: u16 = packet::ADDRESS_BASE as u16;
+
+// The address byte of a destination; a number that is no monitor's ID has none.
 pub enum Address {
     Byte(u8),
     Unknown,
@@ -76,6 +84,7 @@ pub fn encode_item_read(dest: Destination, item: Item, out: &mut [u8]) -> Encode
     encode_request(dest, Request::ItemRead(item), b"", out)
 }
 
+// A tag of more than 16 bytes is not in range: it is refused, and which request is passed for it makes no difference.
 pub fn encode_tag_write(dest: Destination, tag: &[u8], out: &mut [u8]) -> Encoded
     ensures { λ r. ⌜ Encodes (encoding (length (now (out .entry))) dest (message.tagWrite (now (tag .entry)))) r (now (out .entry)) (now (out .exit)) ⌝ }
 {
@@ -90,14 +99,14 @@ pub fn encode_request(dest: Destination, request: Request, bytes: &[u8], out: &m
     requires { ⌜ Beside (requestCount request) (now bytes) ⌝ }
     ensures { λ r. ⌜ Encodes (encoding (length (now (out .entry))) dest (requestOf request (now (bytes .entry)))) r (now (out .entry)) (now (out .exit)) ⌝ }
 {
-    let good = is_in_range(request);
-    encode(dest, request, bytes, good, out)
+    let in_range = is_in_range(request);
+    encode(dest, request, bytes, in_range, out)
 }
 
-// Mode and date in their ranges; a tag is no longer than its count says.
+// Whether the values of a request are in their ranges.
 fn is_in_range(request: Request) -> bool
     requires { ⌜ requestCount request ≤ 16 ⌝ }
-    ensures { λ r. ⌜ ((bytes : List ℕ) → r ≡ isInRange (requestOf request bytes)) ⌝ }
+    ensures { λ r. ⌜ TellsRange r request ⌝ }
 {
     match request {
         Request::PowerControl(mode) => {
@@ -112,24 +121,30 @@ fn is_in_range(request: Request) -> bool
     }
 }
 
-// Every request: refusals in their order, and the packet. What is not good is refused whatever the request.
-fn encode(dest: Destination, request: Request, bytes: &[u8], good: bool, out: &mut [u8]) -> Encoded
+// Every request: refusals in their order, and the packet. What is not in range is refused whatever the request.
+fn encode(
+    dest: Destination,
+    request: Request,
+    bytes: &[u8],
+    in_range: bool,
+    out: &mut [u8],
+) -> Encoded
     requires { ⌜ Beside (requestCount request) (now bytes) ⌝ }
-    ensures { λ r. ⌜ Encodes (encodingOf (length (now (out .entry))) dest good (requestType (requestOf request (now (bytes .entry)))) (requestText (requestOf request (now (bytes .entry))))) r (now (out .entry)) (now (out .exit)) ⌝ }
+    ensures { λ r. ⌜ Encodes (encodingOf (length (now (out .entry))) dest «in_range» (requestType (requestOf request (now (bytes .entry)))) (requestText (requestOf request (now (bytes .entry))))) r (now (out .entry)) (now (out .exit)) ⌝ }
 {
-    if out.len() < 64 {
+    if out.len() < packet::LEAST_BUFFER {
         return Encoded::Refused(Refusal::ShortBuffer);
     }
     let Address::Byte(address) = address_of(dest) else {
         return Encoded::Refused(Refusal::MonitorId);
     };
-    if !good {
+    if !in_range {
         return Encoded::Refused(Refusal::Value);
     }
     let mut text = [0u8; 62];
     let written = write::request_text(request, bytes, &mut text);
     let n = written.length;
-    Encoded::Length(packet::put_packet(out, address, 0x30, written.kind, &text[..n]))
+    Encoded::Length(packet::put_packet(out, address, packet::ZERO_BYTE, written.kind, &text[..n]))
 }
 
 // The address of a destination.
@@ -137,13 +152,13 @@ fn address_of(dest: Destination) -> Address
     ensures { λ r. ⌜ addressAs r ≡ addressIn dest ⌝ }
 {
     let Destination::Id(id) = dest else {
-        return Address::Byte(0x2A);
+        return Address::Byte(packet::ALL_ADDRESS);
     };
-    if id < 1 {
+    if id < LEAST_ID {
         return Address::Unknown;
     }
-    if 8 < id {
+    if MOST_ID < id {
         return Address::Unknown;
     }
-    Address::Byte((0x40 + id) as u8)
+    Address::Byte((ADDRESS_BASE + id) as u8)
 }

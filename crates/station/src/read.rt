@@ -1,83 +1,102 @@
 // A reply read from one whole packet.
 ghost use mathlib.Core.Path.{_≡_};
-ghost use Prim.Native.Nat.{_≤_};
-ghost use lib.ListN.{length};
-ghost use Rattle.wire.specs.Refusal.{numberOf};
-ghost use Rattle.station.specs.Read.{isReplyHeader, isReplyType, isWholeLength, readPacket, readerNumber, reads};
+ghost use Prim.Native.Nat.{_-_, _≤_};
+ghost use lib.ListN.{length, getD};
+ghost use Rattle.wire.specs.Packet.{addressBase, leastPacket};
+ghost use Rattle.wire.specs.Judge.{verdict};
+ghost use Rattle.wire.specs.Inner.{Whole};
+ghost use Rattle.replies.specs.View.{orRefused};
+ghost use Rattle.station.specs.Read.{isReplyHeader, isReplyType, isWholeLength, sentBy, replyInMessage, replyVerdict, readPacket, packetReading};
 use replies::read;
-use replies::read::Answer;
+use replies::read::ReplyOrRefusal;
 use wire::packet;
 use wire::packet::Judged;
 use wire::refusal::Refusal;
 
+// The addresses of the monitors, from the least ID's to the largest ID's.
+const LEAST_SOURCE: u8 = packet::ADDRESS_BASE + packet::LEAST_ID;
+
+const MOST_SOURCE: u8 = packet::ADDRESS_BASE + packet::MOST_ID;
+
 // What was read, the sender's ID, and the bytes of a serial number, a model or a tag.
-pub struct Reading {
-    pub answer: Answer,
+pub struct PacketReading {
+    pub answer: ReplyOrRefusal,
     pub sender: u8,
     pub bytes: [u8; 16],
 }
 
 // Reads one whole packet.
-pub fn read_packet(p: &[u8]) -> Reading
-    ensures { λ r. ⌜ reads r ≡ readPacket (now (p .entry)) ⌝ }
+pub fn read_packet(p: &[u8]) -> PacketReading
+    ensures { λ r. ⌜ packetReading r ≡ readPacket (now (p .entry)) ⌝ }
 {
-    if p.len() < 13 {
-        return refused(Refusal::ReplyShort);
+    if let Judged::Refused(refusal) = judge_reply(p) {
+        return refused(refusal);
     }
-    if !is_reply_header(p) {
-        return refused(Refusal::ReplyHeader);
-    }
-    if !is_whole_length(p) {
-        return refused(Refusal::ReplyLength);
-    }
-    if let Judged::Refused(refusal) = packet::judge_packet(p) {
-        return refused(reader_refusal(refusal));
+    read_message(p)
+}
+
+// The reply in a whole packet of a monitor.
+fn read_message(p: &[u8]) -> PacketReading
+    requires { ⌜ Whole (now p) × (addressBase ≤ getD (now p) 3 0) ⌝ }
+    ensures { λ r. ⌜ packetReading r ≡ sentBy (getD (now (p .entry)) 3 0 - addressBase) (orRefused (replyInMessage (now (p .entry)))) ⌝ }
+{
+    if !packet::is_message(p) {
+        return refused(Refusal::ReplyMessage);
     }
     let end = p.len() - 3;
     let found = read::read_reply(p[4], &p[8..end]);
     let answer = found.answer;
     let bytes = found.bytes;
-    Reading {
+    PacketReading {
         answer,
-        sender: p[3] - 0x40,
+        sender: p[3] - packet::ADDRESS_BASE,
         bytes,
     }
 }
 
 // A refusal has no sender and no bytes.
-fn refused(refusal: Refusal) -> Reading
-    ensures { λ r. ⌜ r .answer ≡ Answer.Refused refusal ⌝ }
+fn refused(refusal: Refusal) -> PacketReading
+    ensures { λ r. ⌜ r .answer ≡ ReplyOrRefusal.Refused refusal ⌝ }
 {
-    Reading {
-        answer: Answer::Refused(refusal),
+    PacketReading {
+        answer: ReplyOrRefusal::Refused(refusal),
         sender: 0,
         bytes: [0u8; 16],
     }
 }
 
-// The reader's number for a packet that is not whole.
-fn reader_refusal(refusal: Refusal) -> Refusal
-    ensures { λ r. ⌜ numberOf r ≡ readerNumber (numberOf refusal) ⌝ }
+// Refusals 30 to 34 of a packet.
+fn judge_reply(p: &[u8]) -> Judged
+    ensures { λ r. ⌜ verdict r ≡ replyVerdict (now (p .entry)) ⌝ }
 {
-    if let Refusal::NoReturn = refusal {
-        return Refusal::ReplyNoReturn;
+    if p.len() < packet::LEAST_PACKET {
+        return Judged::Refused(Refusal::ReplyShort);
     }
-    if let Refusal::CheckCode = refusal {
-        return Refusal::ReplyCheckCode;
+    if !is_reply_header(p) {
+        return Judged::Refused(Refusal::ReplyHeader);
     }
-    Refusal::ReplyMessage
+    if !is_whole_length(p) {
+        return Judged::Refused(Refusal::ReplyLength);
+    }
+    if !packet::ends_in_return(p) {
+        return Judged::Refused(Refusal::ReplyNoReturn);
+    }
+    if !packet::has_check_code(p) {
+        return Judged::Refused(Refusal::ReplyCheckCode);
+    }
+    Judged::Good
 }
 
 // SOH, the reserved byte and the station's address; a source A to H; a type B, D or F.
 fn is_reply_header(p: &[u8]) -> bool
-    requires { ⌜ 13 ≤ length (now p) ⌝ }
+    requires { ⌜ leastPacket ≤ length (now p) ⌝ }
     ensures { λ r. ⌜ r ≡ isReplyHeader (now (p .entry)) ⌝ }
 {
-    let start = p[0] == 0x01;
-    let reserved = p[1] == 0x30;
-    let to_station = p[2] == 0x30;
+    let start = p[0] == packet::SOH;
+    let reserved = p[1] == packet::ZERO_BYTE;
+    let to_station = p[2] == packet::ZERO_BYTE;
     let source = p[3];
-    let from_monitor = (0x41 <= source) & (source <= 0x48);
+    let from_monitor = (LEAST_SOURCE <= source) & (source <= MOST_SOURCE);
     let typed = is_reply_type(p[4]);
     start & reserved & to_station & from_monitor & typed
 }
@@ -85,18 +104,18 @@ fn is_reply_header(p: &[u8]) -> bool
 fn is_reply_type(kind: u8) -> bool
     ensures { λ r. ⌜ r ≡ isReplyType kind ⌝ }
 {
-    if kind == 0x42 {
+    if kind == packet::TYPE_B {
         return true;
     }
-    if kind == 0x44 {
+    if kind == packet::TYPE_D {
         return true;
     }
-    kind == 0x46
+    kind == packet::TYPE_F
 }
 
 // The length digits give the packet's own length.
 fn is_whole_length(p: &[u8]) -> bool
-    requires { ⌜ 13 ≤ length (now p) ⌝ }
+    requires { ⌜ leastPacket ≤ length (now p) ⌝ }
     ensures { λ r. ⌜ r ≡ isWholeLength (now (p .entry)) ⌝ }
 {
     if !packet::is_length(p) {

@@ -3,9 +3,11 @@ ghost use mathlib.Core.Path.{_≡_};
 ghost use lib.ListN.{length};
 ghost use Rattle.messages.specs.Message as message;
 ghost use Rattle.messages.specs.declared.message.Item.{Item};
-ghost use Rattle.messages.specs.View.{requestOf, requestCount, Beside};
-ghost use Rattle.station.specs.Encode.{Encoding, encodedAs, encoding};
-ghost use Rattle.station_c.specs.Encode.{destinationOf, Tells, Exports, dateOf};
+ghost use Rattle.messages.specs.View.{requestOf};
+ghost use Rattle.messages.specs.Inner.{requestCount, Beside};
+ghost use Rattle.station.specs.Encode.{encoding};
+ghost use Rattle.station_c.specs.Encode.{destinationOf, EncodesForC, dateFrom};
+ghost use Rattle.station_c.specs.Inner.{TellsOf};
 use messages::message::Date;
 use messages::message::Item;
 use messages::message::Request;
@@ -21,7 +23,7 @@ pub extern "C" fn station_encode_get(
     out: &mut [u8],
     size: &mut usize,
 ) -> u8
-    ensures { λ r. ⌜ Exports (encoding (length (now (out .entry))) (destinationOf dest) (message.getParameter page code)) r (now (out .entry)) (now (out .exit)) (now (size .entry)) (now (size .exit)) ⌝ }
+    ensures { λ r. ⌜ EncodesForC (encoding (length (now (out .entry))) (destinationOf dest) (message.getParameter page code)) r (now (out .entry)) (now (out .exit)) (now (size .entry)) (now (size .exit)) ⌝ }
 {
     export(dest, Request::Get { page, code }, b"", out, size)
 }
@@ -35,14 +37,14 @@ pub extern "C" fn station_encode_set(
     out: &mut [u8],
     size: &mut usize,
 ) -> u8
-    ensures { λ r. ⌜ Exports (encoding (length (now (out .entry))) (destinationOf dest) (message.setParameter page code value)) r (now (out .entry)) (now (out .exit)) (now (size .entry)) (now (size .exit)) ⌝ }
+    ensures { λ r. ⌜ EncodesForC (encoding (length (now (out .entry))) (destinationOf dest) (message.setParameter page code value)) r (now (out .entry)) (now (out .exit)) (now (size .entry)) (now (size .exit)) ⌝ }
 {
     export(dest, Request::Set { page, code, value }, b"", out, size)
 }
 
 #[no_mangle]
 pub extern "C" fn station_encode_power_read(dest: u16, out: &mut [u8], size: &mut usize) -> u8
-    ensures { λ r. ⌜ Exports (encoding (length (now (out .entry))) (destinationOf dest) message.powerRead) r (now (out .entry)) (now (out .exit)) (now (size .entry)) (now (size .exit)) ⌝ }
+    ensures { λ r. ⌜ EncodesForC (encoding (length (now (out .entry))) (destinationOf dest) message.powerRead) r (now (out .entry)) (now (out .exit)) (now (size .entry)) (now (size .exit)) ⌝ }
 {
     export(dest, Request::PowerRead, b"", out, size)
 }
@@ -54,14 +56,14 @@ pub extern "C" fn station_encode_power_control(
     out: &mut [u8],
     size: &mut usize,
 ) -> u8
-    ensures { λ r. ⌜ Exports (encoding (length (now (out .entry))) (destinationOf dest) (message.powerControl mode)) r (now (out .entry)) (now (out .exit)) (now (size .entry)) (now (size .exit)) ⌝ }
+    ensures { λ r. ⌜ EncodesForC (encoding (length (now (out .entry))) (destinationOf dest) (message.powerControl mode)) r (now (out .entry)) (now (out .exit)) (now (size .entry)) (now (size .exit)) ⌝ }
 {
     export(dest, Request::PowerControl(mode), b"", out, size)
 }
 
 #[no_mangle]
 pub extern "C" fn station_encode_date_read(dest: u16, out: &mut [u8], size: &mut usize) -> u8
-    ensures { λ r. ⌜ Exports (encoding (length (now (out .entry))) (destinationOf dest) message.dateRead) r (now (out .entry)) (now (out .exit)) (now (size .entry)) (now (size .exit)) ⌝ }
+    ensures { λ r. ⌜ EncodesForC (encoding (length (now (out .entry))) (destinationOf dest) message.dateRead) r (now (out .entry)) (now (out .exit)) (now (size .entry)) (now (size .exit)) ⌝ }
 {
     export(dest, Request::DateRead, b"", out, size)
 }
@@ -79,7 +81,7 @@ pub extern "C" fn station_encode_date_write(
     out: &mut [u8],
     size: &mut usize,
 ) -> u8
-    ensures { λ r. ⌜ Exports (encoding (length (now (out .entry))) (destinationOf dest) (message.dateWrite (dateOf year month day weekday hour minute daylight))) r (now (out .entry)) (now (out .exit)) (now (size .entry)) (now (size .exit)) ⌝ }
+    ensures { λ r. ⌜ EncodesForC (encoding (length (now (out .entry))) (destinationOf dest) (message.dateWrite (dateFrom year month day weekday hour minute daylight))) r (now (out .entry)) (now (out .exit)) (now (size .entry)) (now (size .exit)) ⌝ }
 {
     let date = Date {
         year,
@@ -95,28 +97,28 @@ pub extern "C" fn station_encode_date_write(
 
 #[no_mangle]
 pub extern "C" fn station_encode_serial_read(dest: u16, out: &mut [u8], size: &mut usize) -> u8
-    ensures { λ r. ⌜ Exports (encoding (length (now (out .entry))) (destinationOf dest) (message.itemRead Item.Serial)) r (now (out .entry)) (now (out .exit)) (now (size .entry)) (now (size .exit)) ⌝ }
+    ensures { λ r. ⌜ EncodesForC (encoding (length (now (out .entry))) (destinationOf dest) (message.itemRead Item.Serial)) r (now (out .entry)) (now (out .exit)) (now (size .entry)) (now (size .exit)) ⌝ }
 {
     export(dest, Request::ItemRead(Item::Serial), b"", out, size)
 }
 
 #[no_mangle]
 pub extern "C" fn station_encode_model_read(dest: u16, out: &mut [u8], size: &mut usize) -> u8
-    ensures { λ r. ⌜ Exports (encoding (length (now (out .entry))) (destinationOf dest) (message.itemRead Item.Model)) r (now (out .entry)) (now (out .exit)) (now (size .entry)) (now (size .exit)) ⌝ }
+    ensures { λ r. ⌜ EncodesForC (encoding (length (now (out .entry))) (destinationOf dest) (message.itemRead Item.Model)) r (now (out .entry)) (now (out .exit)) (now (size .entry)) (now (size .exit)) ⌝ }
 {
     export(dest, Request::ItemRead(Item::Model), b"", out, size)
 }
 
 #[no_mangle]
 pub extern "C" fn station_encode_tag_read(dest: u16, out: &mut [u8], size: &mut usize) -> u8
-    ensures { λ r. ⌜ Exports (encoding (length (now (out .entry))) (destinationOf dest) (message.itemRead Item.Tag)) r (now (out .entry)) (now (out .exit)) (now (size .entry)) (now (size .exit)) ⌝ }
+    ensures { λ r. ⌜ EncodesForC (encoding (length (now (out .entry))) (destinationOf dest) (message.itemRead Item.Tag)) r (now (out .entry)) (now (out .exit)) (now (size .entry)) (now (size .exit)) ⌝ }
 {
     export(dest, Request::ItemRead(Item::Tag), b"", out, size)
 }
 
 #[no_mangle]
 pub extern "C" fn station_encode_former_tag_read(dest: u16, out: &mut [u8], size: &mut usize) -> u8
-    ensures { λ r. ⌜ Exports (encoding (length (now (out .entry))) (destinationOf dest) (message.itemRead Item.FormerTag)) r (now (out .entry)) (now (out .exit)) (now (size .entry)) (now (size .exit)) ⌝ }
+    ensures { λ r. ⌜ EncodesForC (encoding (length (now (out .entry))) (destinationOf dest) (message.itemRead Item.FormerTag)) r (now (out .entry)) (now (out .exit)) (now (size .entry)) (now (size .exit)) ⌝ }
 {
     export(dest, Request::ItemRead(Item::FormerTag), b"", out, size)
 }
@@ -128,7 +130,7 @@ pub extern "C" fn station_encode_tag_write(
     out: &mut [u8],
     size: &mut usize,
 ) -> u8
-    ensures { λ r. ⌜ Exports (encoding (length (now (out .entry))) (destinationOf dest) (message.tagWrite (now (tag .entry)))) r (now (out .entry)) (now (out .exit)) (now (size .entry)) (now (size .exit)) ⌝ }
+    ensures { λ r. ⌜ EncodesForC (encoding (length (now (out .entry))) (destinationOf dest) (message.tagWrite (now (tag .entry)))) r (now (out .entry)) (now (out .exit)) (now (size .entry)) (now (size .exit)) ⌝ }
 {
     tell(encode::encode_tag_write(destination(dest), tag, out), size)
 }
@@ -136,7 +138,7 @@ pub extern "C" fn station_encode_tag_write(
 // Any request, with its bytes beside it.
 fn export(dest: u16, request: Request, bytes: &[u8], out: &mut [u8], size: &mut usize) -> u8
     requires { ⌜ Beside (requestCount request) (now bytes) ⌝ }
-    ensures { λ r. ⌜ Exports (encoding (length (now (out .entry))) (destinationOf dest) (requestOf request (now (bytes .entry)))) r (now (out .entry)) (now (out .exit)) (now (size .entry)) (now (size .exit)) ⌝ }
+    ensures { λ r. ⌜ EncodesForC (encoding (length (now (out .entry))) (destinationOf dest) (requestOf request (now (bytes .entry)))) r (now (out .entry)) (now (out .exit)) (now (size .entry)) (now (size .exit)) ⌝ }
 {
     tell(
         encode::encode_request(destination(dest), request, bytes, out),
@@ -156,7 +158,7 @@ fn destination(number: u16) -> Destination
 
 // 0, and the length in its place; or the refusal, and the place untouched.
 fn tell(e: Encoded, size: &mut usize) -> u8
-    ensures { λ r. ⌜ ((wanted : Encoding) → encodedAs wanted e → Tells wanted r (now (size .entry)) (now (size .exit))) ⌝ }
+    ensures { λ r. ⌜ TellsOf e r (now (size .entry)) (now (size .exit)) ⌝ }
 {
     match e {
         Encoded::Length(n) => {

@@ -1,3 +1,3 @@
-// The station for the host program in C: numbers, lent numbers and byte slices. Refusals are document 01's numbers.
+// The station for the host program in C: numbers, lent numbers and byte slices. Refusals are the rules' numbers.
 pub mod encode;
 pub mod read;

@@ -1,19 +1,19 @@
 // The reader for C: the result is the kind of the reply or the refusal; numbers and bytes go to lent places. Refused, nothing is written.
-ghost use mathlib.Core.List.{List, [], _∷_};
+ghost use mathlib.Core.List.{[], _∷_};
 ghost use mathlib.Core.Path.{_≡_};
-ghost use Prim.Native.Nat.{ℕ, _≤_};
+ghost use Prim.Native.Nat.{_≤_};
 ghost use lib.ListN.{length, take};
 ghost use Rattle.wire.specs.Packet.{over};
-ghost use Rattle.messages.specs.View.{outcomeNumber, modeNumber, dateAnswerOf};
-ghost use Rattle.station_c.specs.Read.{readInto, Exports, Lists, listing, kindOf, itemKind, numbersOf, dateNumbers};
+ghost use Rattle.messages.specs.View.{statusNumber, dateAnswerOf};
+ghost use Rattle.station_c.specs.Read.{readInto, ReadsForC, replyKind, itemKind, numbersOf, dateNumbers};
+ghost use Rattle.station_c.specs.Inner.{Lists, PutsItem, listing};
 use messages::message::Date;
 use messages::message::DateAnswer;
 use messages::message::Item;
-use messages::message::Outcome;
 use messages::message::Parameter;
-use messages::message::PowerMode;
 use messages::message::Reply;
-use replies::read::Answer;
+use messages::message::Status;
+use replies::read::ReplyOrRefusal;
 use station::read;
 use wire::digits;
 
@@ -32,7 +32,7 @@ pub extern "C" fn station_read(
     bytes: &mut [u8],
     count: &mut usize,
 ) -> u8
-    ensures { λ r. ⌜ Exports (readInto (length (now (numbers .entry))) (length (now (bytes .entry))) (now (packet .entry))) r (now (numbers .entry)) (now (numbers .exit)) (now (bytes .entry)) (now (bytes .exit)) (now (count .entry)) (now (count .exit)) ⌝ }
+    ensures { λ r. ⌜ ReadsForC (readInto (length (now (numbers .entry))) (length (now (bytes .entry))) (now (packet .entry))) r (now (numbers .entry)) (now (numbers .exit)) (now (bytes .entry)) (now (bytes .exit)) (now (count .entry)) (now (count .exit)) ⌝ }
 {
     if numbers.len() < 9 {
         return 10;
@@ -43,10 +43,10 @@ pub extern "C" fn station_read(
     let reading = read::read_packet(packet);
     let answer = reading.answer;
     match answer {
-        Answer::Refused(refusal) => {
+        ReplyOrRefusal::Refused(refusal) => {
             return refusal.number();
         }
-        Answer::Reply(reply) => {
+        ReplyOrRefusal::Reply(reply) => {
             let list = list_reply(reading.sender, reply);
             let item = reading.bytes;
             let all = list.numbers;
@@ -59,24 +59,24 @@ pub extern "C" fn station_read(
 
 // A reply from a sender as a list of numbers.
 fn list_reply(sender: u8, reply: Reply) -> Listed
-    ensures { λ r. ⌜ ((bytes : List ℕ) → Lists r sender reply bytes) × (r .count ≤ 9) ⌝ }
+    ensures { λ r. ⌜ Lists r sender reply ⌝ }
 {
     let id = sender as u16;
     match reply {
         Reply::Null => {
             return list_bytes(101, id, 0);
         }
-        Reply::Got(outcome, p) => {
-            return list_parameter(102, id, outcome, p);
+        Reply::Got(status, p) => {
+            return list_parameter(102, id, status, p);
         }
-        Reply::Set(outcome, p) => {
-            return list_parameter(103, id, outcome, p);
+        Reply::Set(status, p) => {
+            return list_parameter(103, id, status, p);
         }
-        Reply::PowerStatus(outcome, mode) => {
-            return list_status(104, id, outcome, mode_number(mode));
+        Reply::PowerStatus(status, mode) => {
+            return list_status(104, id, status, mode.number());
         }
-        Reply::PowerControl(outcome, mode) => {
-            return list_status(105, id, outcome, mode);
+        Reply::PowerControl(status, mode) => {
+            return list_status(105, id, status, mode);
         }
         Reply::Date(answer) => {
             return list_date(id, answer);
@@ -84,8 +84,8 @@ fn list_reply(sender: u8, reply: Reply) -> Listed
         Reply::Item(item, beside) => {
             return list_bytes(item_kind(item), id, beside);
         }
-        Reply::TagWritten(outcome, beside) => {
-            return list_tag(id, outcome, beside);
+        Reply::TagWritten(status, beside) => {
+            return list_tag(id, status, beside);
         }
     }
 }
@@ -103,23 +103,23 @@ fn list_bytes(kind: u8, id: u16, beside: u8) -> Listed
 }
 
 // The status of a tag write, and so many bytes.
-fn list_tag(id: u16, outcome: Outcome, beside: u8) -> Listed
-    ensures { λ r. ⌜ r ≡ listing 112 (id ∷ outcomeNumber outcome ∷ []) beside ⌝ }
+fn list_tag(id: u16, status: Status, beside: u8) -> Listed
+    ensures { λ r. ⌜ r ≡ listing 112 (id ∷ statusNumber status ∷ []) beside ⌝ }
 {
-    let status = outcome_number(outcome);
+    let number = status.number() as u16;
     Listed {
         kind: 112,
         count: 2,
-        numbers: [id, status, 0, 0, 0, 0, 0, 0, 0],
+        numbers: [id, number, 0, 0, 0, 0, 0, 0, 0],
         beside,
     }
 }
 
 // Result, page, code, operation type, max, value.
-fn list_parameter(kind: u8, id: u16, outcome: Outcome, p: Parameter) -> Listed
-    ensures { λ r. ⌜ r ≡ listing kind (id ∷ outcomeNumber outcome ∷ p .page ∷ p .code ∷ p .operation ∷ p .largest ∷ p .value ∷ []) 0 ⌝ }
+fn list_parameter(kind: u8, id: u16, status: Status, p: Parameter) -> Listed
+    ensures { λ r. ⌜ r ≡ listing kind (id ∷ statusNumber status ∷ p .page ∷ p .code ∷ p .operation ∷ p .largest ∷ p .value ∷ []) 0 ⌝ }
 {
-    let result = outcome_number(outcome);
+    let result = status.number() as u16;
     let page = p.page as u16;
     let code = p.code as u16;
     let operation = p.operation as u16;
@@ -132,21 +132,21 @@ fn list_parameter(kind: u8, id: u16, outcome: Outcome, p: Parameter) -> Listed
 }
 
 // Status, mode.
-fn list_status(kind: u8, id: u16, outcome: Outcome, mode: u16) -> Listed
-    ensures { λ r. ⌜ r ≡ listing kind (id ∷ outcomeNumber outcome ∷ mode ∷ []) 0 ⌝ }
+fn list_status(kind: u8, id: u16, status: Status, mode: u16) -> Listed
+    ensures { λ r. ⌜ r ≡ listing kind (id ∷ statusNumber status ∷ mode ∷ []) 0 ⌝ }
 {
-    let status = outcome_number(outcome);
+    let number = status.number() as u16;
     Listed {
         kind,
         count: 3,
-        numbers: [id, status, mode, 0, 0, 0, 0, 0, 0],
+        numbers: [id, number, mode, 0, 0, 0, 0, 0, 0],
         beside: 0,
     }
 }
 
 // The seven fields of a date, behind a status where it was written.
 fn list_date(id: u16, answer: DateAnswer) -> Listed
-    ensures { λ r. ⌜ r ≡ listing (kindOf (dateAnswerOf answer)) (id ∷ numbersOf (dateAnswerOf answer)) 0 ⌝ }
+    ensures { λ r. ⌜ r ≡ listing (replyKind (dateAnswerOf answer)) (id ∷ numbersOf (dateAnswerOf answer)) 0 ⌝ }
 {
     match answer {
         DateAnswer::Read(date) => {
@@ -158,13 +158,13 @@ fn list_date(id: u16, answer: DateAnswer) -> Listed
                 beside: 0,
             };
         }
-        DateAnswer::Written(outcome, date) => {
-            let status = outcome_number(outcome);
+        DateAnswer::Written(status, date) => {
+            let number = status.number() as u16;
             let d = date_numbers(date);
             return Listed {
                 kind: 107,
                 count: 9,
-                numbers: [id, status, d[0], d[1], d[2], d[3], d[4], d[5], d[6]],
+                numbers: [id, number, d[0], d[1], d[2], d[3], d[4], d[5], d[6]],
                 beside: 0,
             };
         }
@@ -196,25 +196,6 @@ fn item_kind(item: Item) -> u8
     }
 }
 
-fn outcome_number(outcome: Outcome) -> u16
-    ensures { λ r. ⌜ r ≡ outcomeNumber outcome ⌝ }
-{
-    match outcome {
-        Outcome::Acknowledged => 0,
-        Outcome::Refused => 1,
-    }
-}
-
-fn mode_number(mode: PowerMode) -> u16
-    ensures { λ r. ⌜ r ≡ modeNumber mode ⌝ }
-{
-    match mode {
-        PowerMode::On => 1,
-        PowerMode::Sleep => 2,
-        PowerMode::Standby => 4,
-    }
-}
-
 // Writes the first numbers of a list at the start of a lent slice.
 fn put_numbers(out: &mut [u16], numbers: &[u16], count: usize)
     requires { ⌜ (count ≤ length (now numbers)) × (length (now numbers) ≤ length (now out)) ⌝ }
@@ -230,12 +211,19 @@ fn put_numbers(out: &mut [u16], numbers: &[u16], count: usize)
 // Writes as many bytes as are counted, and there, at the start of a lent slice; how many.
 fn put_item(out: &mut [u8], item: &[u8], count: u8) -> usize
     requires { ⌜ length (now item) ≤ length (now out) ⌝ }
-    ensures { λ r. ⌜ (r ≡ length (take count (now (item .entry)))) × (now (out .exit) ≡ over (take count (now (item .entry))) (now (out .entry))) ⌝ }
+    ensures { λ r. ⌜ PutsItem count (now (item .entry)) r (now (out .entry)) (now (out .exit)) ⌝ }
 {
-    let mut n = count as usize;
-    if item.len() < n {
-        n = item.len();
-    }
+    let n = counted(item, count as usize);
     digits::put_bytes(out, 0, &item[..n]);
     n
+}
+
+// A count of bytes, or how many there are where that is less.
+fn counted(bytes: &[u8], count: usize) -> usize
+    ensures { λ r. ⌜ (r ≤ length (now (bytes .entry))) × (take r (now (bytes .entry)) ≡ take count (now (bytes .entry))) ⌝ }
+{
+    if bytes.len() < count {
+        return bytes.len();
+    }
+    count
 }

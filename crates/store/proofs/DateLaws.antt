@@ -11,10 +11,14 @@ use borrow.Author.Tests.{leb-true, eqb-true}
 use Rattle.bitfield.specs.Field.{getField, Apart}
 use Rattle.bitfield.proofs.Laws.{get-put-other, byte-put, length-put}
 use Rattle.messages.specs.declared.message.Date.{Date}
-use Rattle.plan.specs.Stores.{applied, Within}
-use Rattle.store.specs.Layout.{Field, dateFields, year, month, day, weekday, hour, minute, read, write, fits, fieldsInRange}
+use Rattle.plan.specs.Stores.{applied}
+use Rattle.plan.specs.Inner.{Within}
+use Rattle.store.specs.Fields.{Field, read, write, fits}
+use Rattle.store.specs.Layout.{dateFields, year, month, day, weekday, hour, minute, fieldsInRange}
+use Rattle.store.specs.Inner.{DateFits}
 use Rattle.store.specs.Contents.{dateOf, isStorable, isAccepted, withDate, dateStores}
-use Rattle.store.proofs.StoreLaws.{isSame, isAmong, isField, each-one, both, read-write-any, in-range-write}
+use Rattle.wire.proofs.Tests.{both}
+use Rattle.store.proofs.StoreLaws.{isSame, isAmong, isField, each-one, fits-below, read-write-any, in-range-write}
 use Rattle.store.proofs.StoreLaws.{SpareKept, around-length, around-within, around-applied}
 
 -- ---- the six writes
@@ -37,6 +41,18 @@ storable d e =
     let t = both _ (fits day (d .day)) (w .0) in
     let y = both (fits year (d .year)) (fits month (d .month)) (t .0) in
     record { year = y .0; month = y .1; day = t .1; weekday = w .1; hour = h .1; minute = f .1 }
+
+pub storable-fits : (d : Date) → isStorable d ≡ true → DateFits d
+storable-fits d e =
+    let s = storable d e in
+    record {
+      year = fits-below year (d .year) refl (s .year);
+      month = fits-below month (d .month) refl (s .month);
+      day = fits-below day (d .day) refl (s .day);
+      weekday = fits-below weekday (d .weekday) refl (s .weekday);
+      hour = fits-below hour (d .hour) refl (s .hour);
+      minute = fits-below minute (d .minute) refl (s .minute);
+    }
 
 -- what each write of a date field keeps, a date write keeps
 date-by : (P : List ℕ → Type 0) (m : List ℕ) (d : Date)
@@ -87,7 +103,7 @@ pub in-range-date : (m : List ℕ) (d : Date) → 12 ≤ length m → isStorable
     → fieldsInRange (withDate m d) ≡ true
 in-range-date m d l s r =
     date-by (λ u. (12 ≤ length u) × (fieldsInRange u ≡ true)) m d
-    (λ u f v e h p. (rw length-put (p .0), in-range-write u f v (each-one isField dateFields f refl e) (p .0) (h s) (p .1))) (l, r) .1
+    (λ u f v e h p. let b = date-field-in f e in (rw length-put (p .0), in-range-write u f v (each-one isField dateFields f refl e) (omega arith) (h s) (p .1))) (l, r) .1
 
 -- ---- what is read after a date write
 
@@ -104,12 +120,13 @@ record Reads (f : Field) (u : List ℕ) (x : ℕ) : Type 0 where
   size : 12 ≤ length u
   value : read u f ≡ x
 
-next : {f : Field} {u : List ℕ} {x : ℕ} (g : Field) (v : ℕ) → isField f ≡ true → isField g ≡ true → fits g v ≡ true
+next : {f : Field} {u : List ℕ} {x : ℕ} (g : Field) (v : ℕ) → isField f ≡ true → isAmong g dateFields ≡ true → fits g v ≡ true
     → Reads f u x → Reads f (write u g v) (cond (isSame g f) v x)
 next {f} {u} {x} g v e d h r =
+    let b = date-field-in g d in
     record {
       size = rw length-put (r .size);
-      value = read-write-any u g v d (r .size) h f e ∙ ap (cond (isSame g f) v) (r .value);
+      value = read-write-any u g v (each-one isField dateFields g refl d) (omega (arith, r .size)) h f e ∙ ap (cond (isSame g f) v) (r .value);
     }
 
 pub read-date : (m : List ℕ) (d : Date) (f : Field) → isField f ≡ true → 12 ≤ length m → isStorable d ≡ true
@@ -166,16 +183,16 @@ accepted-shown m d l a =
 
 -- ---- what a date write stores
 
-pub date-applied : (m : List ℕ) (d : Date) → 12 ≤ length m → applied (dateStores m d) m ≡ withDate m d
+pub date-applied : (m : List ℕ) (d : Date) → applied (dateStores m d) m ≡ withDate m d
 unfolding dateStores
-date-applied m d l =
-    around-applied 54 30 m (withDate m d) (omega arith) (date-length m d)
+date-applied m d =
+    around-applied 54 30 m (withDate m d) (date-length m d)
     (λ j a. date-keeps-byte m d j (⊎-elim (λ x. inr (omega arith)) (λ x. inl (omega arith)) a))
 
 pub date-count : (m : List ℕ) (d : Date) → 12 ≤ length m → length (dateStores m d) ≡ 5
 unfolding dateStores
 date-count m d l = around-length 54 30 (withDate m d) (omega (arith, date-length m d))
 
-pub date-within : (m : List ℕ) (d : Date) → Within 12 (dateStores m d)
+pub date-within : (m : List ℕ) (d : Date) → Within 128 (dateStores m d)
 unfolding dateStores
-date-within m d = around-within 54 30 (withDate m d) (omega arith)
+date-within m d = around-within 128 54 30 (withDate m d) (omega arith)

@@ -1,32 +1,34 @@
--- What the code does to the first bytes of the store it does to the store: a field of them, the date, a copy of them, a range of them; and what a setting may hold fits its field.
+-- What the code does to some bytes of the store it does to the store: a field of them, the date, a copy of them, a range of them.
 use borrow.Author.Needs.{needs}
-use borrow.Author.Tests.{leb-true}
-use types.Run.{OneOf, miss}
-use denote.Enum.Declared.{tagOf}
 use mathlib.Core.Bool.{Bool, true, _&&_, and-true, and-assoc}
 use mathlib.Core.Path.{_≡_, refl, sym, ap, ap₂, _∙_}
 use mathlib.Core.List.{List, [], _∷_, _++_, append-nil}
-use Prim.Native.Nat.{ℕ, zero, suc, _+_, _-_, _*_, _/_, _%_, _^_, _≤_, _<_}
-use native.Mathlib.Nat.{suc-add, zero-add}
+use Prim.Native.Nat.{ℕ, zero, suc, _+_, _-_, _*_, _/_, _%_, _≤_, _<_}
+use native.Mathlib.Nat.{suc-add, zero-add, add-assoc}
 use native.Mathlib.Omega.{arith}
-use lib.Dec.{leb}
-use lib.ListN.{length, set, take, drop}
+use lib.ListN.{length, set, take, drop, length-drop}
 use lib.Pow.{pow-mono}
-use lib.Seq.{getD-take, take-set-lt, take-take, take-nil, take-length, drop-length, paste}
-use Rattle.bitfield.specs.Field.{withBit, setBit, getField, putField, Inside}
+use lib.Seq.{getD-take, getD-drop, take-set-lt, drop-set-add, take-take, take-nil, take-length, drop-length, length-take-le, take-at, paste}
+use Rattle.bitfield.specs.Field.{withBit, setBit, getField, putField}
 use Rattle.bitfield.proofs.Laws.{get-lt}
 use Rattle.messages.specs.declared.message.Date.{Date}
 use Rattle.plan.specs.Stores.{Entry, rangeOf, copied}
-use Rattle.store.specs.declared.settings.Setting.{Setting}
-use Rattle.store.specs.declared.settings.Row.{Row}
-use Rattle.store.specs.Layout.{Field, InHead, fitsIn, fits, read, allFit}
-use Rattle.store.specs.Settings.{rowOf, fieldOf, accepts, kept, shown}
+use Rattle.store.specs.Fields.{Field, fits, read, allFit}
+use Rattle.store.specs.Inner.{InStore}
 use Rattle.store.specs.Contents.{withDate, dateStores}
-use Rattle.store.proofs.settings.Setting.{the-type}
-use Rattle.store.proofs.StoreLaws.{both}
-use Rattle.store.proofs.SettingLaws.{kept-below}
 
--- ---- a field of the first bytes
+-- ---- a copy to the beginning
+
+pub copy-first : (o s : List ℕ) → paste o 0 s (length s) ≡ s ++ drop (length s) o
+copy-first o s = rw (take-length s, zero-add (length s))
+
+pub copy-all : (o s : List ℕ) → length o ≡ length s → paste o 0 s (length s) ≡ s
+copy-all o s e = copy-first o s ∙ rw (← e, drop-length, append-nil)
+
+pub copy-part : (n : ℕ) (o s : List ℕ) → length o ≡ n → n ≤ length s → paste o 0 (take n s) (length (take n s)) ≡ take n s
+copy-part n o s l h = copy-all o (take n s) (l ∙ sym (length-take-le n s h))
+
+-- ---- a field of some bytes
 
 take-bit : (n : ℕ) (s : List ℕ) (k b : ℕ) → k < 8 * n → take n (setBit s k b) ≡ setBit (take n s) k b
 unfolding setBit
@@ -40,6 +42,20 @@ take-put n s at zero v h = refl
 take-put n s at (suc width) v h =
     take-bit n (putField s at width (v / 2)) (at + width) (v % 2) (omega arith)
     ∙ ap (λ (l : List ℕ). setBit l (at + width) (v % 2)) (take-put n s at width (v / 2) (omega arith))
+
+drop-bit : (n : ℕ) (s : List ℕ) (k b : ℕ) → drop n (setBit s (8 * n + k) b) ≡ setBit (drop n s) k b
+unfolding setBit
+drop-bit n s k b =
+    let i : (8 * n + k) / 8 ≡ n + k / 8 = omega arith in
+    let j : (8 * n + k) % 8 ≡ k % 8 = omega arith in
+    rw (i, j, getD-drop n s (k / 8) 0) (drop-set-add n s (k / 8) _)
+
+drop-put : (n : ℕ) (s : List ℕ) (at width v : ℕ) → drop n (putField s (8 * n + at) width v) ≡ putField (drop n s) at width v
+unfolding putField
+drop-put n s at zero v = refl
+drop-put n s at (suc width) v =
+    rw (add-assoc (8 * n) at width) (drop-bit n (putField s (8 * n + at) width (v / 2)) (at + width) (v % 2))
+    ∙ ap (λ (l : List ℕ). setBit l (at + width) (v % 2)) (drop-put n s at width (v / 2))
 
 -- a field stored in the first n bytes
 pub put-in-first : (n : ℕ) (s : List ℕ) (at width v : ℕ) {h g : List ℕ} → at + width ≤ 8 * n
@@ -68,6 +84,23 @@ part-of-first a e n l h k =
 pub copied-of-first : (a e n : ℕ) (s : List ℕ) {h : List ℕ} → a ≤ e → e ≤ n → h ≡ take n s → copied a e h ≡ copied a e s
 copied-of-first a e n s l m p = rw p (ap (rangeOf a) (part-of-first a e n s l m))
 
+-- a field stored in a copy of the bytes around it is stored as that of the whole
+pub around-stored : (s : List ℕ) (at width v : ℕ) {w u : List ℕ} → InStore at width → length s ≡ 128
+    → w ≡ paste (0 ∷ 0 ∷ []) 0 (take ((at + width + 7) / 8 - at / 8) (drop (at / 8) s)) (length (take ((at + width + 7) / 8 - at / 8) (drop (at / 8) s)))
+    → u ≡ putField w (at % 8) width v
+    → take ((at + width + 7) / 8 - at / 8) u ≡ take ((at + width + 7) / 8 - at / 8) (drop (at / 8) (putField s at width v))
+around-stored s at width v {w} {u} i l p q =
+    let a = at / 8 in
+    let n = (at + width + 7) / 8 - at / 8 in
+    let part : List ℕ = take n (drop a s) in
+    let few : length part ≡ n = length-take-le n (drop a s) (simp length-drop (omega arith)) in
+    let place : at ≡ 8 * a + at % 8 = omega arith in
+    ap (take n) (q ∙ ap (λ (x : List ℕ). putField x (at % 8) width v) (p ∙ copy-first (0 ∷ 0 ∷ []) part))
+    ∙ take-put n (part ++ drop (length part) (0 ∷ 0 ∷ [])) (at % 8) width v (omega arith)
+    ∙ ap (λ (x : List ℕ). putField x (at % 8) width v) (take-at part _ n few)
+    ∙ sym (take-put n (drop a s) (at % 8) width v (omega arith))
+    ∙ ap (take n) (sym (drop-put a s (at % 8) width v) ∙ ap (λ (x : ℕ). drop a (putField s x width v)) (sym place))
+
 -- the date stored in the first 12 bytes is stored as that of the whole
 pub date-of-first : (m : List ℕ) (d : Date) → copied 6 11 (withDate (take 12 m) d) ≡ dateStores m d
 unfolding dateStores withDate
@@ -76,14 +109,6 @@ date-of-first m d = copied-of-first 6 11 12 (withDate m d) {h = withDate (take 1
 -- a plan of nothing but what is added to it
 pub only : {es fs r : List Entry} → es ≡ [] → r ≡ es ++ fs → r ≡ fs
 only p q = q ∙ rw p
-
--- ---- a copy to the beginning
-
-pub copy-first : (o s : List ℕ) → paste o 0 s (length s) ≡ s ++ drop (length s) o
-copy-first o s = rw (take-length s, zero-add (length s))
-
-pub copy-all : (o s : List ℕ) → length o ≡ length s → paste o 0 s (length s) ≡ s
-copy-all o s e = copy-first o s ∙ rw (← e, drop-length, append-nil)
 
 -- ---- tests joined by and
 
@@ -106,50 +131,3 @@ pub fit-append : (m : List ℕ) (fs gs : List Field) → allFit m (fs ++ gs) ≡
 fit-append m [] gs = refl
 fit-append m (f ∷ fs) gs =
     ap (λ (b : Bool). fits f (read m f) && b) (fit-append m fs gs) ∙ sym (and-assoc (fits f (read m f)) (allFit m fs) (allFit m gs))
-
--- ---- what fits a field
-
--- a value in a range is at most the range's end
-pub at-most : (least most v : ℕ) → fitsIn least most v ≡ true → v ≤ most
-at-most least most v e = leb-true v most (both (leb least v) (leb v most) e .1)
-
--- ---- settings
-
--- a setting's row has the place of its field, in the head
-pub record Placed (s : Setting) : Type 0 where
-  pub at : rowOf s .at ≡ fieldOf s .at
-  pub width : rowOf s .width ≡ fieldOf s .width
-  pub in-head : InHead (rowOf s .at) (rowOf s .width)
-
-pub placed : (s : Setting) → Placed s
-placed Setting.Backlight = search needs
-placed Setting.Input = search needs
-placed Setting.Balance = search needs
-placed Setting.PipH = search needs
-placed Setting.PipV = search needs
-placed Setting.AmbientLow = search needs
-placed Setting.AmbientHigh = search needs
-placed Setting.Tile = search needs
-
-pub row-in-head : (s : Setting) {r : Row} → r ≡ rowOf s → InHead (r .at) (r .width)
-row-in-head s e = rw e (placed s .in-head)
-
-pub row-inside : (s : Setting) (m : List ℕ) {r : Row} → r ≡ rowOf s → length m ≡ 128 → Inside m (r .at) (r .width)
-row-inside s m e l =
-    let h = row-in-head s e in
-    record { some = h .some; two = h .two; within = omega arith }
-
--- what is kept of an accepted value fits the field
-pub kept-fits : (s : Setting) (v : ℕ) {r : Row} {k : ℕ} → r ≡ rowOf s → k ≡ kept s v → accepts s v ≡ true → k < 2 ^ r .width
-kept-fits s v e f a = rw (e, f, placed s .width) (kept-below s v a)
-
--- any setting but Input is kept and shown as it is
-pub as-it-is : (s : Setting) (v : ℕ) → OneOf (0 ∷ 2 ∷ 3 ∷ 4 ∷ 5 ∷ 6 ∷ 7 ∷ []) (tagOf the-type s) → (v ≡ kept s v) × (v ≡ shown s v)
-as-it-is Setting.Backlight v k = (refl, refl)
-as-it-is Setting.Input v k = absurd (miss (0 ∷ 2 ∷ 3 ∷ 4 ∷ 5 ∷ 6 ∷ 7 ∷ []) 1 tt k)
-as-it-is Setting.Balance v k = (refl, refl)
-as-it-is Setting.PipH v k = (refl, refl)
-as-it-is Setting.PipV v k = (refl, refl)
-as-it-is Setting.AmbientLow v k = (refl, refl)
-as-it-is Setting.AmbientHigh v k = (refl, refl)
-as-it-is Setting.Tile v k = (refl, refl)

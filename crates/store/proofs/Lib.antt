@@ -1,3 +1,4 @@
+pub mod Tables
 pub mod FieldLaws
 pub mod StoreLaws
 pub mod SettingLaws

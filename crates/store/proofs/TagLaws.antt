@@ -11,11 +11,13 @@ use lib.Seq.{ext-getD, getD-take, getD-drop, length-take-le, take-take, take-app
 use borrow.Author.Tests.{le-leb}
 use Rattle.bitfield.specs.Field.{getField, Apart}
 use Rattle.bitfield.proofs.Laws.{get-put, get-put-other, byte-put, length-put, get-lt}
-use Rattle.plan.specs.Stores.{applied, rangeOf, Within}
+use Rattle.plan.specs.Stores.{applied, rangeOf}
+use Rattle.plan.specs.Inner.{Within}
 use Rattle.plan.proofs.Laws.{applied-append, applied-length, range-length, range-in, range-out, within-append, within-range}
-use Rattle.store.specs.Layout.{tagLength, formerLength, read, write, fits, fieldsInRange, bytesAround}
+use Rattle.store.specs.Fields.{read, write, fits, bytesAround}
+use Rattle.store.specs.Layout.{tagLength, formerLength, fieldsInRange}
 use Rattle.store.specs.Contents.{tagOf, formerTagOf, padded, withLengths, tagStores}
-use Rattle.store.proofs.StoreLaws.{SpareKept, in-range-one, in-range-write, read-head, in-range-head}
+use Rattle.store.proofs.StoreLaws.{SpareKept, field-placed, apart-sym, in-range-one, in-range-write, read-bytes, in-range-same}
 
 -- the store u is m with the tag written: the tag and zeros, the old tag as the former one, both lengths, and all else as before
 pub record TagWritten (m tag u : List ℕ) : Type 0 where
@@ -24,7 +26,7 @@ pub record TagWritten (m tag u : List ℕ) : Type 0 where
   pub count : read u tagLength ≡ length tag
   pub former-bytes : take 16 (drop 28 u) ≡ take 16 (drop 12 m)
   pub former-count : read u formerLength ≡ read m tagLength
-  pub fields : (at width : ℕ) → at + width ≤ 84 → getField u at width ≡ getField m at width
+  pub fields : (at width : ℕ) → Apart 84 10 at width → Apart 96 256 at width → getField u at width ≡ getField m at width
   pub spare : SpareKept m u
   pub outside : (j : ℕ) → (j < 10) ⊎ (44 ≤ j) → getD u j 0 ≡ getD m j 0
 
@@ -148,7 +150,18 @@ module _ (m tag : List ℕ) (size : length m ≡ 128) (short : length tag ≤ 16
       go (no x) = let q : 10 + (j - 10) ≡ j = omega arith in rw q at (at-lengths (j - 10) (omega arith))
 
   in-head : (at width : ℕ) → at + width ≤ 96 → getField u at width ≡ getField (withLengths m (length tag)) at width
-  in-head = read-head (withLengths m (length tag)) u at-head
+  in-head at width h = read-bytes (withLengths m (length tag)) u at width (λ j _ k. at-head j (omega arith))
+
+  -- and the bytes past the tags as they were
+  past-tags : (j : ℕ) → 44 ≤ j → getD u j 0 ≡ getD (withLengths m (length tag)) j 0
+  unfolding withLengths
+  past-tags j h =
+      at-other j (inr h)
+      ∙ sym (byte-put (write m formerLength (read m tagLength)) 84 5 (length tag) j (inl (omega arith)) ∙ byte-put m 89 5 (read m tagLength) j (inl (omega arith)))
+
+  not-in-tags : (at width : ℕ) → Apart 96 256 at width → getField u at width ≡ getField (withLengths m (length tag)) at width
+  not-in-tags at width (inl x) = read-bytes (withLengths m (length tag)) u at width (λ j k _. past-tags j (omega arith))
+  not-in-tags at width (inr x) = in-head at width x
 
   pub tag-written : TagWritten m tag (applied (tagStores m tag) m)
   unfolding u withLengths
@@ -164,8 +177,8 @@ module _ (m tag : List ℕ) (size : length m ≡ 128) (short : length tag ≤ 16
             in-head 89 5 (omega arith)
             ∙ get-put-other (write m formerLength (read m tagLength)) 84 5 (length tag) 89 5 (inl (omega arith))
             ∙ get-put m 89 5 (read m tagLength) (omega arith) (get-lt m 84 5);
-        fields = λ at width h. in-head at width (omega arith) ∙ lengths-keep at width (inr h);
-        spare = record { bits = in-head 94 2 (omega arith) ∙ lengths-keep 94 2 (inl (omega arith)); bytes = λ j h. at-other j (inr h) };
+        fields = λ at width a t. not-in-tags at width t ∙ lengths-keep at width a;
+        spare = record { bits = in-head 94 2 (omega arith) ∙ lengths-keep 94 2 (inl (omega arith)); bytes = λ j h. at-other j (inr (omega (arith, h))) };
         outside = at-other;
       }
 
@@ -173,7 +186,7 @@ module _ (m tag : List ℕ) (size : length m ≡ 128) (short : length tag ≤ 16
   unfolding u withLengths
   in-range-tag r =
       let f : fits tagLength (length tag) ≡ true = rw (le-leb 0 (length tag) (omega arith), le-leb (length tag) 16 short) in
-      in-range-head (withLengths m (length tag)) u at-head
+      in-range-same (withLengths m (length tag)) u (λ g e. not-in-tags (g .at) (g .width) (apart-sym (g .at) (g .width) 96 256 (field-placed g e .not-tag)))
       (in-range-write (write m formerLength (read m tagLength)) tagLength (length tag) refl (simp length-put (omega arith)) f
       (in-range-write m formerLength (read m tagLength) refl (omega arith) (in-range-one m tagLength r refl) r))
 

@@ -6,11 +6,14 @@ use lib.Dec.{eqb}
 use lib.ListN.{length, getD}
 use borrow.Author.Tests.{eqb-true}
 use Rattle.bitfield.specs.Field.{getField, bit, bitOf}
-use Rattle.store.specs.Layout.{Field, fields, read, fieldsInRange, unusedStore}
-use Rattle.store.specs.declared.settings.Setting.{Setting}
-use Rattle.store.specs.Settings.{rowOf, current}
+use Rattle.store.specs.Fields.{Field, read}
+use Rattle.store.specs.Layout.{fields, fieldsInRange, unusedStore}
+use Rattle.store.specs.declared.settings.Row.{Row}
+use Rattle.store.specs.Settings.{settings, Listed, current}
 use Rattle.store.specs.Contents.{isOn, dateOf, tagOf, formerTagOf}
-use Rattle.store.proofs.StoreLaws.{isField, each, each-one}
+use Rattle.store.proofs.Tables.{each}
+use Rattle.store.proofs.StoreLaws.{isField, each-one}
+use Rattle.store.proofs.SettingLaws.{each-setting}
 
 pub unused-length : length unusedStore ≡ 128
 unfolding unusedStore
@@ -32,16 +35,13 @@ pub unused-field : (f : Field) → isField f ≡ true → read unusedStore f ≡
 unused-field f e =
     eqb-true (read unusedStore f) (f .unused) (each-one (λ f. eqb (read unusedStore f) (f .unused)) fields f unused-fields e)
 
-pub unused-setting : (s : Setting) → current unusedStore s ≡ rowOf s .unused
+unused-settings : each (λ r. eqb (current unusedStore r) (r .unused)) settings ≡ true
 unfolding current unusedStore getField bit bitOf
-unused-setting Setting.Backlight = refl
-unused-setting Setting.Input = refl
-unused-setting Setting.Balance = refl
-unused-setting Setting.PipH = refl
-unused-setting Setting.PipV = refl
-unused-setting Setting.AmbientLow = refl
-unused-setting Setting.AmbientHigh = refl
-unused-setting Setting.Tile = refl
+unused-settings = refl
+
+pub unused-setting : (r : Row) → Listed r → current unusedStore r ≡ r .unused
+unused-setting r l =
+    eqb-true (current unusedStore r) (r .unused) (each-setting (λ r. eqb (current unusedStore r) (r .unused)) r unused-settings l)
 
 pub unused-on : isOn unusedStore ≡ true
 unfolding isOn unusedStore getField bit bitOf

@@ -1,17 +1,19 @@
--- Power, date and tags in the store (document 01, 'What a good packet does' and 'Store'): what is read, what is accepted, what is stored.
+-- Power, date and tags in the store (docs/RULES.md, 'What a good packet does', AC6, AC7 and AC9, and 'Store'): what is read, what is accepted,
+-- what is stored.
 use mathlib.Core.Bool.{Bool, _&&_}
-use mathlib.Core.List.{List, [], _∷_, _++_}
+use mathlib.Core.List.{List, _++_}
 use Prim.Native.Nat.{ℕ, _+_}
 use lib.Dec.{eqb}
 use lib.ListN.{length, take, drop, replicate}
 use Rattle.messages.specs.declared.message.Date.{Date}
 use Rattle.plan.specs.Stores.{Entry, rangeOf}
-use Rattle.store.specs.declared.contents.Text.{Text}
-use Rattle.store.specs.Layout.{power, year, month, day, weekday, hour, minute, tagLength, formerLength, read, write, fits, bytesAround}
+use Rattle.store.specs.declared.contents.ItemBytes.{ItemBytes}
+use Rattle.store.specs.Fields.{read, write, fits, bytesAround}
+use Rattle.store.specs.Layout.{power, year, month, day, weekday, hour, minute, tagLength, formerLength, tagPlace, formerTagPlace}
 
 -- what a text of the code is: the first bytes of the array, as many as it counts
-abbrev pub textOf : Text → List ℕ
-textOf t = take (t .count) (t .bytes)
+abbrev pub itemBytes : ItemBytes → List ℕ
+itemBytes t = take (t .count) (t .bytes)
 
 -- ---- power
 
@@ -54,10 +56,10 @@ dateStores m d = bytesAround 54 30 (withDate m d)
 -- ---- tags
 
 unfoldable pub tagOf : List ℕ → List ℕ
-tagOf m = take (read m tagLength) (drop 12 m)
+tagOf m = take (read m tagLength) (drop tagPlace m)
 
 unfoldable pub formerTagOf : List ℕ → List ℕ
-formerTagOf m = take (read m formerLength) (drop 28 m)
+formerTagOf m = take (read m formerLength) (drop formerTagPlace m)
 
 -- 16 bytes: a tag, and 00h past its length
 unfoldable pub padded : List ℕ → List ℕ
@@ -70,5 +72,5 @@ withLengths m n = write (write m formerLength (read m tagLength)) tagLength n
 -- the old tag, all 16 bytes, becomes the former tag; then the new tag; then both lengths, in bytes 10 and 11
 unfoldable pub tagStores : List ℕ → List ℕ → List Entry
 tagStores m tag =
-    rangeOf 28 (take 16 (drop 12 m))
-    ++ (rangeOf 12 (padded tag) ++ bytesAround (tagLength .at) (tagLength .width + formerLength .width) (withLengths m (length tag)))
+    rangeOf formerTagPlace (take 16 (drop tagPlace m))
+    ++ (rangeOf tagPlace (padded tag) ++ bytesAround (tagLength .at) (tagLength .width + formerLength .width) (withLengths m (length tag)))

@@ -1,48 +1,16 @@
--- The store (document 01, 'Store'): 128 bytes. Byte 0 is the mark; bytes 1 to 11 hold 17 fields, packed without gaps, most significant
--- bit first, and two spare bits; the tag stands in 12 to 27, the former tag in 28 to 43, spare bytes in 44 to 127.
-use mathlib.Core.Bool.{Bool, true, _&&_}
-use mathlib.Core.List.{List, [], _∷_, _++_}
-use Prim.Native.Nat.{ℕ, _+_, _/_, _%_, _≤_, _<_}
-use lib.Dec.{leb}
+-- The store (docs/RULES.md, 'Store', ST1 to ST3): 128 bytes. Byte 0 is the mark; bytes 1 to 11 hold 17 fields, packed without gaps, most
+-- significant bit first, and two spare bits; then the tag, the former tag and spare bytes.
+use mathlib.Core.Bool.{Bool}
+use mathlib.Core.List.{List, [], _∷_, _++_, map}
+use Prim.Native.Nat.{ℕ}
 use lib.ListN.{replicate}
-use Rattle.bitfield.specs.Field.{getField, putField}
-use Rattle.plan.specs.Stores.{Entry, copied}
+use Rattle.store.specs.Fields.{Field, field, allFit}
+use Rattle.store.specs.Settings.{settings, fieldOf}
 
--- a field: its first bit, its width, the least and the most that it may hold, and what it holds on an unused board
-pub record Field : Type 0 where
-  pub at : ℕ
-  pub width : ℕ
-  pub least : ℕ
-  pub most : ℕ
-  pub unused : ℕ
+-- ---- the fields, in the order of the store
 
-abbrev field : ℕ → ℕ → ℕ → ℕ → ℕ → Field
-field at width least most unused = record { at = at; width = width; least = least; most = most; unused = unused }
-
-abbrev pub backlight : Field
-backlight = field 8 7 0 100 70
-
--- 0, 1, 2 for inputs 1, 3, 17
-abbrev pub input : Field
-input = field 15 2 0 2 0
-
-abbrev pub balance : Field
-balance = field 17 6 0 60 30
-
-abbrev pub pipH : Field
-pipH = field 23 7 0 100 50
-
-abbrev pub pipV : Field
-pipV = field 30 7 0 100 50
-
-abbrev pub ambientLow : Field
-ambientLow = field 37 7 0 100 20
-
-abbrev pub ambientHigh : Field
-ambientHigh = field 44 7 0 100 80
-
-abbrev pub tile : Field
-tile = field 51 2 1 2 1
+abbrev pub settingFields : List Field
+settingFields = map fieldOf settings
 
 -- on is 1
 abbrev pub power : Field
@@ -67,18 +35,14 @@ hour = field 73 5 0 23 0
 abbrev pub minute : Field
 minute = field 78 6 0 59 0
 
+abbrev pub dateFields : List Field
+dateFields = year ∷ month ∷ day ∷ weekday ∷ hour ∷ minute ∷ []
+
 abbrev pub tagLength : Field
 tagLength = field 84 5 0 16 0
 
 abbrev pub formerLength : Field
 formerLength = field 89 5 0 16 0
-
--- all 17, in the order of the store
-abbrev pub settingFields : List Field
-settingFields = backlight ∷ input ∷ balance ∷ pipH ∷ pipV ∷ ambientLow ∷ ambientHigh ∷ tile ∷ []
-
-abbrev pub dateFields : List Field
-dateFields = year ∷ month ∷ day ∷ weekday ∷ hour ∷ minute ∷ []
 
 abbrev pub lengthFields : List Field
 lengthFields = tagLength ∷ formerLength ∷ []
@@ -86,43 +50,26 @@ lengthFields = tagLength ∷ formerLength ∷ []
 abbrev pub fields : List Field
 fields = settingFields ++ (power ∷ (dateFields ++ lengthFields))
 
--- what a field holds, and the store with another value in it
-abbrev pub read : List ℕ → Field → ℕ
-read m f = getField m (f .at) (f .width)
-
-abbrev pub write : List ℕ → Field → ℕ → List ℕ
-write m f v = putField m (f .at) (f .width) v
-
--- a value that a field may hold
-abbrev pub fitsIn : ℕ → ℕ → ℕ → Bool
-fitsIn least most v = leb least v && leb v most
-
-abbrev pub fits : Field → ℕ → Bool
-fits f v = fitsIn (f .least) (f .most) v
-
-abbrev pub allFit : List ℕ → List Field → Bool
-allFit m [] = true
-allFit m (f ∷ fs) = fits f (read m f) && allFit m fs
-
 -- every field holds a value that it may hold
 unfoldable pub fieldsInRange : List ℕ → Bool
 fieldsInRange m = allFit m fields
 
--- some bits of bytes 0 to 11, within two of them
-pub record InHead (at width : ℕ) : Type 0 where
-  pub some : 0 < width
-  pub two : at % 8 + width ≤ 16
-  pub within : at + width ≤ 96
+-- ---- behind the fields
 
--- ---- what a change of fields stores
+-- two bits
+abbrev pub spareBit : ℕ
+spareBit = 94
 
--- the bytes of a changed store that hold a bit of the bits from at on, as many as width says
-abbrev pub bytesAround : ℕ → ℕ → List ℕ → List Entry
-bytesAround at width m = copied (at / 8) ((at + width + 7) / 8) m
+-- the tag and the former tag, 16 bytes each
+abbrev pub tagPlace : ℕ
+tagPlace = 12
 
--- one field: one byte, or two
-unfoldable pub fieldStores : List ℕ → Field → ℕ → List Entry
-fieldStores m f v = bytesAround (f .at) (f .width) (write m f v)
+abbrev pub formerTagPlace : ℕ
+formerTagPlace = 28
+
+-- all bytes from here on
+abbrev pub sparePlace : ℕ
+sparePlace = 44
 
 -- ---- the unused board
 

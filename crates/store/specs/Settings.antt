@@ -1,98 +1,116 @@
--- The settings (document 01, the table under 'What a good packet does'): page and code, what is accepted, the max field, the unused value,
--- and what is kept of a value.
+-- The settings (docs/RULES.md, the table under 'What a good packet does', AC2 to AC4): one list of rows, from which the setting of a page
+-- and a code is found, and with it what is accepted, kept and shown.
 use mathlib.Core.Bool.{Bool, cond, _&&_, _||_}
-use mathlib.Core.List.{List}
+use mathlib.Core.List.{List, [], _∷_, List·Memᴰ}
 use mathlib.Core.Option.{Option, none, some}
 use Prim.Native.Nat.{ℕ}
-use lib.Dec.{leb, eqb}
-use Rattle.store.specs.Layout.{Field, backlight, input, balance, pipH, pipV, ambientLow, ambientHigh, tile, read}
-use Rattle.store.specs.declared.settings.Setting.{Setting}
+use lib.Dec.{eqb}
+use Rattle.store.specs.Fields.{Field, field, read, fitsIn}
+use Rattle.store.specs.declared.settings.Values.{Values}
 use Rattle.store.specs.declared.settings.Row.{Row}
 use Rattle.store.specs.declared.settings.Found.{Found}
 
-abbrev row : ℕ → ℕ → ℕ → ℕ → Field → Row
-row page code largest unused f = record { page = page; code = code; largest = largest; unused = unused; at = f .at; width = f .width }
+-- ---- the table
 
--- each row's fixed numbers
-abbrev pub rowOf : Setting → Row
-rowOf Setting.Backlight = row 0x00 0x10 100 70 backlight
-rowOf Setting.Input = row 0x00 0x60 17 1 input
-rowOf Setting.Balance = row 0x00 0x93 60 30 balance
-rowOf Setting.PipH = row 0x02 0x74 100 50 pipH
-rowOf Setting.PipV = row 0x02 0x75 100 50 pipV
-rowOf Setting.AmbientLow = row 0x10 0x33 100 20 ambientLow
-rowOf Setting.AmbientHigh = row 0x10 0x34 100 80 ambientHigh
-rowOf Setting.Tile = row 0x10 0x4A 2 1 tile
+abbrev range : ℕ → ℕ → Values
+range least most = Values.Range least most
 
-abbrev pub fieldOf : Setting → Field
-fieldOf Setting.Backlight = backlight
-fieldOf Setting.Input = input
-fieldOf Setting.Balance = balance
-fieldOf Setting.PipH = pipH
-fieldOf Setting.PipV = pipV
-fieldOf Setting.AmbientLow = ambientLow
-fieldOf Setting.AmbientHigh = ambientHigh
-fieldOf Setting.Tile = tile
+abbrev inputs : Values
+inputs = Values.Inputs
 
-abbrev pub isAt : ℕ → ℕ → Setting → Bool
-isAt page code s = eqb page (rowOf s .page) && eqb code (rowOf s .code)
+-- page, code, accepted values, max field, unused value; first bit and width of the field
+abbrev row : ℕ → ℕ → Values → ℕ → ℕ → ℕ → ℕ → Row
+row page code values largest unused at width =
+    record { page = page; code = code; values = values; largest = largest; unused = unused; at = at; width = width }
 
--- the setting of a page and a code, if one is listed
-unfoldable pub settingAt : ℕ → ℕ → Option Setting
-settingAt page code =
-    cond (isAt page code Setting.Backlight) (some Setting.Backlight)
-    (cond (isAt page code Setting.Input) (some Setting.Input)
-    (cond (isAt page code Setting.Balance) (some Setting.Balance)
-    (cond (isAt page code Setting.PipH) (some Setting.PipH)
-    (cond (isAt page code Setting.PipV) (some Setting.PipV)
-    (cond (isAt page code Setting.AmbientLow) (some Setting.AmbientLow)
-    (cond (isAt page code Setting.AmbientHigh) (some Setting.AmbientHigh)
-    (cond (isAt page code Setting.Tile) (some Setting.Tile) none)))))))
+abbrev pub backlight : Row
+backlight = row 0x00 0x10 (range 0 100) 100 70 8 7
 
--- the values that a Set accepts
-abbrev pub accepts : Setting → ℕ → Bool
-accepts Setting.Backlight v = leb v 100
-accepts Setting.Input v = eqb v 1 || (eqb v 3 || (eqb v 4 || eqb v 17))
-accepts Setting.Balance v = leb v 60
-accepts Setting.PipH v = leb v 100
-accepts Setting.PipV v = leb v 100
-accepts Setting.AmbientLow v = leb v 100
-accepts Setting.AmbientHigh v = leb v 100
-accepts Setting.Tile v = leb 1 v && leb v 2
+abbrev pub input : Row
+input = row 0x00 0x60 inputs 17 1 15 2
 
--- what is kept of an accepted value: of input 0, 1, 2 for 1, 3, 17, and 4 is kept as 17
+abbrev pub balance : Row
+balance = row 0x00 0x93 (range 0 60) 60 30 17 6
+
+abbrev pub pipH : Row
+pipH = row 0x02 0x74 (range 0 100) 100 50 23 7
+
+abbrev pub pipV : Row
+pipV = row 0x02 0x75 (range 0 100) 100 50 30 7
+
+abbrev pub ambientLow : Row
+ambientLow = row 0x10 0x33 (range 0 100) 100 20 37 7
+
+abbrev pub ambientHigh : Row
+ambientHigh = row 0x10 0x34 (range 0 100) 100 80 44 7
+
+abbrev pub tile : Row
+tile = row 0x10 0x4A (range 1 2) 2 1 51 2
+
+abbrev pub settings : List Row
+settings = backlight ∷ input ∷ balance ∷ pipH ∷ pipV ∷ ambientLow ∷ ambientHigh ∷ tile ∷ []
+
+abbrev pub Listed : Row → Type 0
+Listed r = List·Memᴰ r settings
+
+-- ---- the setting of a page and a code, if one is listed
+
+abbrev pub isAt : ℕ → ℕ → Row → Bool
+isAt page code r = eqb page (r .page) && eqb code (r .code)
+
+abbrev pub rowIn : ℕ → ℕ → List Row → Option Row
+rowIn page code [] = none
+rowIn page code (r ∷ rs) = cond (isAt page code r) (some r) (rowIn page code rs)
+
+unfoldable pub settingAt : ℕ → ℕ → Option Row
+settingAt page code = rowIn page code settings
+
+-- ---- values
+
+-- inputs 1, 3 and 17 are kept as 0, 1 and 2; 4 is accepted and kept as 17
+abbrev pub inputAccepts : ℕ → Bool
+inputAccepts v = eqb v 1 || (eqb v 3 || (eqb v 4 || eqb v 17))
+
 abbrev pub inputKept : ℕ → ℕ
 inputKept v = cond (eqb v 1) 0 (cond (eqb v 3) 1 2)
 
-abbrev pub kept : Setting → ℕ → ℕ
-kept Setting.Backlight v = v
-kept Setting.Input v = inputKept v
-kept Setting.Balance v = v
-kept Setting.PipH v = v
-kept Setting.PipV v = v
-kept Setting.AmbientLow v = v
-kept Setting.AmbientHigh v = v
-kept Setting.Tile v = v
-
--- what is shown of what is kept
 abbrev pub inputShown : ℕ → ℕ
 inputShown k = cond (eqb k 0) 1 (cond (eqb k 1) 3 17)
 
-abbrev pub shown : Setting → ℕ → ℕ
-shown Setting.Backlight k = k
-shown Setting.Input k = inputShown k
-shown Setting.Balance k = k
-shown Setting.PipH k = k
-shown Setting.PipV k = k
-shown Setting.AmbientLow k = k
-shown Setting.AmbientHigh k = k
-shown Setting.Tile k = k
+-- the values that a Set accepts
+abbrev pub accepts : Values → ℕ → Bool
+accepts (Values.Range least most) v = fitsIn least most v
+accepts Values.Inputs v = inputAccepts v
 
--- the current value of a setting
-unfoldable pub current : List ℕ → Setting → ℕ
-current m s = shown s (read m (fieldOf s))
+-- what is kept of an accepted value
+abbrev pub kept : Values → ℕ → ℕ
+kept (Values.Range least most) v = v
+kept Values.Inputs v = inputKept v
+
+-- what is shown of what is kept
+abbrev pub shown : Values → ℕ → ℕ
+shown (Values.Range least most) k = k
+shown Values.Inputs k = inputShown k
+
+-- the least and the most that is kept
+abbrev pub leastKept : Values → ℕ
+leastKept (Values.Range least most) = least
+leastKept Values.Inputs = 0
+
+abbrev pub mostKept : Values → ℕ
+mostKept (Values.Range least most) = most
+mostKept Values.Inputs = 2
+
+-- ---- a setting in the store
+
+abbrev pub fieldOf : Row → Field
+fieldOf r = field (r .at) (r .width) (leastKept (r .values)) (mostKept (r .values)) (kept (r .values) (r .unused))
+
+-- the current value
+unfoldable pub current : List ℕ → Row → ℕ
+current m r = shown (r .values) (read m (fieldOf r))
 
 -- what the code finds at a page and a code
-abbrev pub found : Found → Option Setting
-found (Found.Setting s) = some s
+abbrev pub found : Found → Option Row
+found (Found.Listed r) = some r
 found Found.Unlisted = none

@@ -5,8 +5,10 @@ ghost use Prim.Native.Nat.{_+_, _^_, _≤_, _<_};
 ghost use lib.ListN.{length, take, drop};
 ghost use Rattle.bitfield.specs.Field.{getField, putField};
 ghost use Rattle.plan.specs.Plans.{storesOf};
-ghost use Rattle.store.specs.Layout.{fieldStores, power, tagLength, formerLength, read, fitsIn, InHead};
-ghost use Rattle.store.specs.Contents.{isOn, dateOf, isStorable, isAccepted, dateStores, tagOf, formerTagOf, padded, tagStores, textOf};
+ghost use Rattle.store.specs.Fields.{fieldStores, read, fitsIn};
+ghost use Rattle.store.specs.Layout.{power, tagLength, formerLength};
+ghost use Rattle.store.specs.Inner.{InStore, InHead, DateFits};
+ghost use Rattle.store.specs.Contents.{isOn, dateOf, isStorable, isAccepted, withDate, dateStores, tagOf, formerTagOf, padded, withLengths, tagStores, itemBytes};
 use crate::fields;
 use messages::message::Date;
 use plan::Plan;
@@ -17,7 +19,7 @@ const TAG: usize = 12;
 const FORMER_TAG: usize = 28;
 
 // Bytes of a tag, the first of the array, as many as count says.
-pub struct Text {
+pub struct ItemBytes {
     pub bytes: [u8; 16],
     pub count: u8,
 }
@@ -87,14 +89,21 @@ pub fn date_stores(store: &[u8], date: Date) -> Plan
     requires { ⌜ isStorable date ≡ true ⌝ }
     ensures { λ r. ⌜ storesOf r ≡ dateStores (now (store .entry)) date ⌝ }
 {
-    let h = fields::head_of(store);
-    let h = with_field(h, fields::YEAR_AT, fields::YEAR_WIDTH, date.year);
+    let head = with_date(fields::head_of(store), date);
+    Plan::empty().with_range(6, &head[6..11])
+}
+
+// The head with a date in its six fields.
+fn with_date(head: [u8; 12], date: Date) -> [u8; 12]
+    requires { ⌜ DateFits date ⌝ }
+    ensures { λ r. ⌜ r ≡ withDate head date ⌝ }
+{
+    let h = with_field(head, fields::YEAR_AT, fields::YEAR_WIDTH, date.year);
     let h = with_field(h, fields::MONTH_AT, fields::MONTH_WIDTH, date.month);
     let h = with_field(h, fields::DAY_AT, fields::DAY_WIDTH, date.day);
     let h = with_field(h, fields::WEEKDAY_AT, fields::WEEKDAY_WIDTH, date.weekday);
     let h = with_field(h, fields::HOUR_AT, fields::HOUR_WIDTH, date.hour);
-    let h = with_field(h, fields::MINUTE_AT, fields::MINUTE_WIDTH, date.minute);
-    Plan::empty().with_range(6, &h[6..11])
+    with_field(h, fields::MINUTE_AT, fields::MINUTE_WIDTH, date.minute)
 }
 
 // The head with a value in one of its fields.
@@ -108,25 +117,37 @@ fn with_field(head: [u8; 12], at: usize, width: usize, value: u8) -> [u8; 12]
 }
 
 // The tag.
-pub fn tag_of(store: &[u8]) -> Text
+pub fn tag_of(store: &[u8]) -> ItemBytes
     requires { ⌜ (length (now store) ≡ 128) × (read (now store) tagLength ≤ 16) ⌝ }
-    ensures { λ r. ⌜ (textOf r ≡ tagOf (now (store .entry))) × (r .count ≤ 16) ⌝ }
+    ensures { λ r. ⌜ (itemBytes r ≡ tagOf (now (store .entry))) × (r .count ≤ 16) ⌝ }
 {
-    text_at(store, TAG, fields::TAG_LENGTH_AT)
+    item_at(store, TAG, fields::TAG_LENGTH_AT)
 }
 
 // The former tag.
-pub fn former_tag_of(store: &[u8]) -> Text
+pub fn former_tag_of(store: &[u8]) -> ItemBytes
     requires { ⌜ (length (now store) ≡ 128) × (read (now store) formerLength ≤ 16) ⌝ }
-    ensures { λ r. ⌜ (textOf r ≡ formerTagOf (now (store .entry))) × (r .count ≤ 16) ⌝ }
+    ensures { λ r. ⌜ (itemBytes r ≡ formerTagOf (now (store .entry))) × (r .count ≤ 16) ⌝ }
 {
-    text_at(store, FORMER_TAG, fields::FORMER_LENGTH_AT)
+    item_at(store, FORMER_TAG, fields::FORMER_LENGTH_AT)
 }
 
 // What a tag write stores.
 pub fn tag_stores(store: &[u8], tag: &[u8]) -> Plan
     requires { ⌜ (length (now store) ≡ 128) × (length (now tag) ≤ 16) ⌝ }
     ensures { λ r. ⌜ storesOf r ≡ tagStores (now (store .entry)) (now (tag .entry)) ⌝ }
+{
+    let head = with_lengths(store, tag.len() as u16);
+    let new = padded_tag(tag);
+    let former = Plan::empty().with_range(FORMER_TAG as u8, &store[TAG..FORMER_TAG]);
+    let both = former.with_range(TAG as u8, &new);
+    both.with_range(10, &head[10..12])
+}
+
+// The head with a tag's length, and the length before it as the former one.
+fn with_lengths(store: &[u8], count: u16) -> [u8; 12]
+    requires { ⌜ (length (now store) ≡ 128) × (count ≤ 16) ⌝ }
+    ensures { λ r. ⌜ r ≡ take 12 (withLengths (now (store .entry)) count) ⌝ }
 {
     let old = bitfield::get(store, fields::TAG_LENGTH_AT, fields::LENGTH_WIDTH);
     let mut head = fields::head_of(store);
@@ -140,25 +161,31 @@ pub fn tag_stores(store: &[u8], tag: &[u8]) -> Plan
         &mut head,
         fields::TAG_LENGTH_AT,
         fields::LENGTH_WIDTH,
-        tag.len() as u16,
+        count,
     );
-    let new = padded_tag(tag);
-    let former = Plan::empty().with_range(28, &store[12..28]);
-    let both = former.with_range(12, &new);
-    both.with_range(10, &head[10..12])
+    head
 }
 
 // The bytes from a place on, as many as the five bits at a place say.
-fn text_at(store: &[u8], from: usize, at: usize) -> Text
-    requires { ⌜ (length (now store) ≡ 128) × (from + 16 ≤ 128) × InHead at 5 × (getField (now store) at 5 ≤ 16) ⌝ }
-    ensures { λ r. ⌜ (textOf r ≡ take (getField (now (store .entry)) at 5) (drop from (now (store .entry)))) × (r .count ≤ 16) ⌝ }
+fn item_at(store: &[u8], from: usize, at: usize) -> ItemBytes
+    requires { ⌜ (length (now store) ≡ 128) × (from + 16 ≤ 128) × InStore at 5 × (getField (now store) at 5 ≤ 16) ⌝ }
+    ensures { λ r. ⌜ (itemBytes r ≡ take (getField (now (store .entry)) at 5) (drop from (now (store .entry)))) × (r .count ≤ 16) ⌝ }
 {
-    let mut bytes = [0u8; 16];
-    wire::digits::put_bytes(&mut bytes, 0, &store[from..from + 16]);
-    Text {
+    let bytes = sixteen_at(store, from);
+    ItemBytes {
         bytes,
         count: bitfield::get(store, at, fields::LENGTH_WIDTH) as u8,
     }
+}
+
+// The 16 bytes from a place on.
+fn sixteen_at(store: &[u8], from: usize) -> [u8; 16]
+    requires { ⌜ (length (now store) ≡ 128) × (from + 16 ≤ 128) ⌝ }
+    ensures { λ r. ⌜ r ≡ take 16 (drop from (now (store .entry))) ⌝ }
+{
+    let mut bytes = [0u8; 16];
+    wire::digits::put_bytes(&mut bytes, 0, &store[from..from + 16]);
+    bytes
 }
 
 // A tag, and zeros past it.

@@ -1,20 +1,17 @@
 // Packed fields of the store, and the unused bytes.
 ghost use mathlib.Core.Path.{_≡_};
-ghost use mathlib.Core.Bool.{_&&_};
-ghost use Prim.Native.Nat.{_+_, _^_, _≤_, _<_};
+ghost use Prim.Native.Nat.{_+_, _-_, _/_, _^_, _<_};
 ghost use lib.ListN.{length, take, drop};
 ghost use Rattle.bitfield.specs.Field.{getField, putField};
 ghost use Rattle.plan.specs.Plans.{storesOf};
-ghost use Rattle.store.specs.Layout.{InHead, fitsIn, bytesAround, fieldsInRange, unusedStore, allFit, settingFields, dateFields, lengthFields};
-use crate::settings::AmbientHigh;
-use crate::settings::AmbientLow;
-use crate::settings::Backlight;
-use crate::settings::Balance;
-use crate::settings::Input;
-use crate::settings::PipH;
-use crate::settings::PipV;
-use crate::settings::Tile;
+ghost use Rattle.store.specs.Fields.{fitsIn, bytesAround, allFit};
+ghost use Rattle.store.specs.Layout.{fieldsInRange, unusedStore, settingFields, dateFields, lengthFields};
+ghost use Rattle.store.specs.Inner.{InStore};
+use crate::settings;
 use plan::Plan;
+
+// The mark of an unused board.
+pub const UNUSED_MARK: u8 = 0x00;
 
 // The places of the fields that are no settings: first bit and width.
 pub const POWER_AT: usize = 53;
@@ -51,51 +48,18 @@ pub const FORMER_LENGTH_AT: usize = 89;
 
 pub const LENGTH_WIDTH: usize = 5;
 
-// Whether each field holds a value that it may hold: the only door to the fields' ranges.
+// Whether each field holds a value that it may hold.
 pub fn fields_in_range(store: &[u8]) -> bool
     requires { ⌜ length (now store) ≡ 128 ⌝ }
     ensures { λ r. ⌜ r ≡ fieldsInRange (now (store .entry)) ⌝ }
 {
-    if !settings_in_range(store) {
+    if !settings::in_range(store) {
         return false;
     }
     if !date_in_range(store) {
         return false;
     }
     lengths_in_range(store)
-}
-
-fn settings_in_range(store: &[u8]) -> bool
-    requires { ⌜ length (now store) ≡ 128 ⌝ }
-    ensures { λ r. ⌜ r ≡ allFit (now (store .entry)) settingFields ⌝ }
-{
-    let backlight = fits(
-        store,
-        Backlight::AT,
-        Backlight::WIDTH,
-        0,
-        Backlight::LARGEST,
-    );
-    let input = fits(store, Input::AT, Input::WIDTH, 0, 2);
-    let balance = fits(store, Balance::AT, Balance::WIDTH, 0, Balance::LARGEST);
-    let pip_h = fits(store, PipH::AT, PipH::WIDTH, 0, PipH::LARGEST);
-    let pip_v = fits(store, PipV::AT, PipV::WIDTH, 0, PipV::LARGEST);
-    let ambient_low = fits(
-        store,
-        AmbientLow::AT,
-        AmbientLow::WIDTH,
-        0,
-        AmbientLow::LARGEST,
-    );
-    let ambient_high = fits(
-        store,
-        AmbientHigh::AT,
-        AmbientHigh::WIDTH,
-        0,
-        AmbientHigh::LARGEST,
-    );
-    let tile = fits(store, Tile::AT, Tile::WIDTH, 1, Tile::LARGEST);
-    backlight & input & balance & pip_h & pip_v & ambient_low & ambient_high & tile
 }
 
 fn date_in_range(store: &[u8]) -> bool
@@ -121,8 +85,8 @@ fn lengths_in_range(store: &[u8]) -> bool
 }
 
 // Whether a field holds a value from least to most.
-fn fits(store: &[u8], at: usize, width: usize, least: u16, most: u16) -> bool
-    requires { ⌜ (length (now store) ≡ 128) × InHead at width ⌝ }
+pub fn fits(store: &[u8], at: usize, width: usize, least: u16, most: u16) -> bool
+    requires { ⌜ (length (now store) ≡ 128) × InStore at width ⌝ }
     ensures { λ r. ⌜ r ≡ fitsIn least most (getField (now (store .entry)) at width) ⌝ }
 {
     let v = bitfield::get(store, at, width);
@@ -131,15 +95,27 @@ fn fits(store: &[u8], at: usize, width: usize, least: u16, most: u16) -> bool
 
 // What a change of one field stores: one byte, or two.
 pub fn field_stores(store: &[u8], at: usize, width: usize, value: u16) -> Plan
-    requires { ⌜ (length (now store) ≡ 128) × InHead at width ⌝ }
+    requires { ⌜ (length (now store) ≡ 128) × InStore at width ⌝ }
     requires { ⌜ value < 2 ^ width ⌝ }
     ensures { λ r. ⌜ storesOf r ≡ bytesAround at width (putField (now (store .entry)) at width value) ⌝ }
 {
-    let mut head = head_of(store);
-    bitfield::put(&mut head, at, width, value);
-    let a = at / 8;
-    let e = (at + width + 7) / 8;
-    Plan::empty().with_range(a as u8, &head[a..e])
+    let around = bytes_around(store, at, width, value);
+    let first = at / 8;
+    let end = (at + width + 7) / 8;
+    Plan::empty().with_range(first as u8, &around[0..end - first])
+}
+
+// The bytes that have a bit of a field, with a value in it: one, or two.
+fn bytes_around(store: &[u8], at: usize, width: usize, value: u16) -> [u8; 2]
+    requires { ⌜ (length (now store) ≡ 128) × InStore at width ⌝ }
+    requires { ⌜ value < 2 ^ width ⌝ }
+    ensures { λ r. ⌜ take ((at + width + 7) / 8 - at / 8) r ≡ take ((at + width + 7) / 8 - at / 8) (drop (at / 8) (putField (now (store .entry)) at width value)) ⌝ }
+{
+    let mut around = [0u8; 2];
+    let end = (at + width + 7) / 8;
+    wire::digits::put_bytes(&mut around, 0, &store[at / 8..end]);
+    bitfield::put(&mut around, at % 8, width, value);
+    around
 }
 
 // The mark and the packed fields.
@@ -148,7 +124,7 @@ pub fn head_of(store: &[u8]) -> [u8; 12]
     ensures { λ r. ⌜ r ≡ take 12 (now (store .entry)) ⌝ }
 {
     let mut head = [0u8; 12];
-    wire::digits::put_bytes(&mut head, 0, &store[..12]);
+    wire::digits::put_bytes(&mut head, 0, &store[0..12]);
     head
 }
 

@@ -1,153 +1,182 @@
-// The settings: a type for each, with its fixed numbers, and what any of them has in common.
+// The settings: a type for each, with its fixed numbers, the rows they make, and what a row says of a value and of the store.
 ghost use mathlib.Core.Path.{_≡_};
-ghost use mathlib.Core.Bool.{true, _&&_};
-ghost use Prim.Native.Nat.{_≤_};
-ghost use lib.Dec.{eqb};
+ghost use mathlib.Core.Bool.{true};
 ghost use lib.ListN.{length};
 ghost use Rattle.plan.specs.Plans.{storesOf};
-ghost use Rattle.store.specs.Layout.{fieldStores};
-ghost use Rattle.store.specs.Settings.{rowOf, fieldOf, settingAt, accepts, kept, shown, current, found};
+ghost use Rattle.store.specs.Fields.{allFit, fieldStores};
+ghost use Rattle.store.specs.Layout.{settingFields};
+ghost use Rattle.store.specs.Settings.{inputAccepts, inputKept, inputShown, accepts, kept, shown, leastKept, mostKept, backlight, input, balance, pipH, pipV, ambientLow, ambientHigh, tile, settings, isAt, settingAt, Listed, fieldOf, current, found};
+ghost use Rattle.store.specs.Inner.{rowFits};
 use crate::fields;
 use plan::Plan;
 
-// The fixed numbers of a setting: page, code, the largest value, the unused value, and the place of its field.
+// The values that a Set takes: all those of a range, or the inputs.
+pub enum Values {
+    Range { least: u16, most: u16 },
+    Inputs,
+}
+
+// The fixed numbers of a setting: page and code, the values, the largest of them, the unused value, and the place of its field.
 pub struct Row {
     pub page: u8,
     pub code: u8,
+    pub values: Values,
     pub largest: u16,
     pub unused: u16,
     pub at: usize,
     pub width: usize,
 }
 
-pub enum Setting {
-    Backlight,
-    Input,
-    Balance,
-    PipH,
-    PipV,
-    AmbientLow,
-    AmbientHigh,
-    Tile,
-}
-
 // What stands at a page and a code.
 pub enum Found {
-    Setting(Setting),
+    Listed(Row),
     Unlisted,
 }
 
-impl Setting {
-    // The setting at a page and a code.
-    pub fn at(page: u8, code: u8) -> Found
-        ensures { λ r. ⌜ found r ≡ settingAt page code ⌝ }
-    {
-        if is_at(page, code, Backlight::PAGE, Backlight::CODE) {
-            return Found::Setting(Setting::Backlight);
-        }
-        if is_at(page, code, Input::PAGE, Input::CODE) {
-            return Found::Setting(Setting::Input);
-        }
-        if is_at(page, code, Balance::PAGE, Balance::CODE) {
-            return Found::Setting(Setting::Balance);
-        }
-        if is_at(page, code, PipH::PAGE, PipH::CODE) {
-            return Found::Setting(Setting::PipH);
-        }
-        if is_at(page, code, PipV::PAGE, PipV::CODE) {
-            return Found::Setting(Setting::PipV);
-        }
-        if is_at(page, code, AmbientLow::PAGE, AmbientLow::CODE) {
-            return Found::Setting(Setting::AmbientLow);
-        }
-        if is_at(page, code, AmbientHigh::PAGE, AmbientHigh::CODE) {
-            return Found::Setting(Setting::AmbientHigh);
-        }
-        if is_at(page, code, Tile::PAGE, Tile::CODE) {
-            return Found::Setting(Setting::Tile);
-        }
-        Found::Unlisted
-    }
-
-    // The fixed numbers of a setting.
-    pub fn row(self) -> Row
-        ensures { λ r. ⌜ r ≡ rowOf self ⌝ }
-    {
-        match self {
-            Setting::Backlight => Backlight::row(),
-            Setting::Input => Input::row(),
-            Setting::Balance => Balance::row(),
-            Setting::PipH => PipH::row(),
-            Setting::PipV => PipV::row(),
-            Setting::AmbientLow => AmbientLow::row(),
-            Setting::AmbientHigh => AmbientHigh::row(),
-            Setting::Tile => Tile::row(),
-        }
-    }
-
+impl Values {
     // Whether a Set takes a value.
     pub fn accepts(self, v: u16) -> bool
         ensures { λ r. ⌜ r ≡ accepts self v ⌝ }
     {
-        match self {
-            Setting::Backlight => Backlight::accepts(v),
-            Setting::Input => Input::accepts(v),
-            Setting::Balance => Balance::accepts(v),
-            Setting::PipH => PipH::accepts(v),
-            Setting::PipV => PipV::accepts(v),
-            Setting::AmbientLow => AmbientLow::accepts(v),
-            Setting::AmbientHigh => AmbientHigh::accepts(v),
-            Setting::Tile => Tile::accepts(v),
-        }
+        let Values::Range { least, most } = self else {
+            return Input::accepts(v);
+        };
+        (least <= v) & (v <= most)
     }
 
     // What is kept of an accepted value.
     pub fn kept(self, v: u16) -> u16
-        requires { ⌜ accepts self v ≡ true ⌝ }
         ensures { λ r. ⌜ r ≡ kept self v ⌝ }
     {
-        if let Setting::Input = self {
-            return Input::kept(v);
-        }
-        v
+        let Values::Inputs = self else {
+            return v;
+        };
+        Input::kept(v)
     }
 
     // What is shown of what is kept.
     pub fn shown(self, k: u16) -> u16
         ensures { λ r. ⌜ r ≡ shown self k ⌝ }
     {
-        if let Setting::Input = self {
-            return Input::shown(k);
-        }
-        k
+        let Values::Inputs = self else {
+            return k;
+        };
+        Input::shown(k)
+    }
+
+    // The least that is kept.
+    fn least_kept(self) -> u16
+        ensures { λ r. ⌜ r ≡ leastKept self ⌝ }
+    {
+        let Values::Range { least, most: _ } = self else {
+            return 0;
+        };
+        least
+    }
+
+    // The most that is kept.
+    fn most_kept(self) -> u16
+        ensures { λ r. ⌜ r ≡ mostKept self ⌝ }
+    {
+        let Values::Range { least: _, most } = self else {
+            return 2;
+        };
+        most
+    }
+}
+
+impl Row {
+    // Whether a page and a code are the row's.
+    fn is_at(self, page: u8, code: u8) -> bool
+        ensures { λ r. ⌜ r ≡ isAt page code self ⌝ }
+    {
+        (page == self.page) & (code == self.code)
     }
 
     // The current value, as a Get shows it.
     pub fn current(self, store: &[u8]) -> u16
         requires { ⌜ length (now store) ≡ 128 ⌝ }
+        requires { ⌜ Listed self ⌝ }
         ensures { λ r. ⌜ r ≡ current (now (store .entry)) self ⌝ }
     {
-        let row = self.row();
-        let k = bitfield::get(store, row.at, row.width);
-        self.shown(k)
+        let values = self.values;
+        values.shown(bitfield::get(store, self.at, self.width))
+    }
+
+    // Whether its field holds a value that it may hold.
+    fn is_in_range(self, store: &[u8]) -> bool
+        requires { ⌜ length (now store) ≡ 128 ⌝ }
+        requires { ⌜ Listed self ⌝ }
+        ensures { λ r. ⌜ r ≡ rowFits (now (store .entry)) self ⌝ }
+    {
+        let values = self.values;
+        fields::fits(
+            store,
+            self.at,
+            self.width,
+            values.least_kept(),
+            values.most_kept(),
+        )
     }
 
     // What a Set of an accepted value stores.
     pub fn stores(self, store: &[u8], v: u16) -> Plan
         requires { ⌜ length (now store) ≡ 128 ⌝ }
-        requires { ⌜ accepts self v ≡ true ⌝ }
-        ensures { λ r. ⌜ storesOf r ≡ fieldStores (now (store .entry)) (fieldOf self) (kept self v) ⌝ }
+        requires { ⌜ Listed self ⌝ }
+        requires { ⌜ accepts (self .values) v ≡ true ⌝ }
+        ensures { λ r. ⌜ storesOf r ≡ fieldStores (now (store .entry)) (fieldOf self) (kept (self .values) v) ⌝ }
     {
-        let row = self.row();
-        fields::field_stores(store, row.at, row.width, self.kept(v))
+        let values = self.values;
+        fields::field_stores(store, self.at, self.width, values.kept(v))
     }
 }
 
-// Whether a page and a code are those of a row.
-fn is_at(page: u8, code: u8, row_page: u8, row_code: u8) -> bool
-    ensures { λ r. ⌜ r ≡ (eqb page «row_page» && eqb code «row_code») ⌝ }
+// All settings, in the order of the store.
+fn rows() -> [Row; 8]
+    ensures { λ r. ⌜ r ≡ settings ⌝ }
 {
-    (page == row_page) & (code == row_code)
+    [
+        Backlight::row(),
+        Input::row(),
+        Balance::row(),
+        PipH::row(),
+        PipV::row(),
+        AmbientLow::row(),
+        AmbientHigh::row(),
+        Tile::row(),
+    ]
+}
+
+// The setting of a page and a code.
+pub fn setting_at(page: u8, code: u8) -> Found
+    ensures { λ r. ⌜ found r ≡ settingAt page code ⌝ }
+{
+    let rows = rows();
+    let mut i = 0;
+    while i < 8 {
+        let row = rows[i];
+        if row.is_at(page, code) {
+            return Found::Listed(row);
+        }
+        i += 1;
+    }
+    Found::Unlisted
+}
+
+// Whether each setting's field holds a value that it may hold.
+pub fn in_range(store: &[u8]) -> bool
+    requires { ⌜ length (now store) ≡ 128 ⌝ }
+    ensures { λ r. ⌜ r ≡ allFit (now (store .entry)) settingFields ⌝ }
+{
+    let rows = rows();
+    let mut all = true;
+    let mut i = 0;
+    while i < 8 {
+        let row = rows[i];
+        all = all & row.is_in_range(store);
+        i += 1;
+    }
+    all
 }
 
 pub struct Backlight;
@@ -166,22 +195,21 @@ impl Backlight {
     pub const AT: usize = 8;
 
     pub fn row() -> Row
-        ensures { λ r. ⌜ r ≡ rowOf Setting.Backlight ⌝ }
+        ensures { λ r. ⌜ r ≡ backlight ⌝ }
     {
+        let values = Values::Range {
+            least: 0,
+            most: Self::LARGEST,
+        };
         Row {
             page: Self::PAGE,
             code: Self::CODE,
+            values,
             largest: Self::LARGEST,
             unused: Self::UNUSED,
             at: Self::AT,
             width: Self::WIDTH,
         }
-    }
-
-    pub fn accepts(v: u16) -> bool
-        ensures { λ r. ⌜ r ≡ accepts Setting.Backlight v ⌝ }
-    {
-        v <= Self::LARGEST
     }
 }
 
@@ -201,11 +229,13 @@ impl Input {
     pub const AT: usize = 15;
 
     pub fn row() -> Row
-        ensures { λ r. ⌜ r ≡ rowOf Setting.Input ⌝ }
+        ensures { λ r. ⌜ r ≡ input ⌝ }
     {
+        let values = Values::Inputs;
         Row {
             page: Self::PAGE,
             code: Self::CODE,
+            values,
             largest: Self::LARGEST,
             unused: Self::UNUSED,
             at: Self::AT,
@@ -214,7 +244,7 @@ impl Input {
     }
 
     pub fn accepts(v: u16) -> bool
-        ensures { λ r. ⌜ r ≡ accepts Setting.Input v ⌝ }
+        ensures { λ r. ⌜ r ≡ inputAccepts v ⌝ }
     {
         if v == 1 {
             return true;
@@ -230,7 +260,7 @@ impl Input {
 
     // 0, 1, 2 for 1, 3, 17; 4 is kept as 17.
     pub fn kept(v: u16) -> u16
-        ensures { λ r. ⌜ r ≡ kept Setting.Input v ⌝ }
+        ensures { λ r. ⌜ r ≡ inputKept v ⌝ }
     {
         if v == 1 {
             return 0;
@@ -243,7 +273,7 @@ impl Input {
 
     // 1, 3, 17 for 0, 1, 2.
     pub fn shown(k: u16) -> u16
-        ensures { λ r. ⌜ r ≡ shown Setting.Input k ⌝ }
+        ensures { λ r. ⌜ r ≡ inputShown k ⌝ }
     {
         if k == 0 {
             return 1;
@@ -271,22 +301,21 @@ impl Balance {
     pub const AT: usize = 17;
 
     pub fn row() -> Row
-        ensures { λ r. ⌜ r ≡ rowOf Setting.Balance ⌝ }
+        ensures { λ r. ⌜ r ≡ balance ⌝ }
     {
+        let values = Values::Range {
+            least: 0,
+            most: Self::LARGEST,
+        };
         Row {
             page: Self::PAGE,
             code: Self::CODE,
+            values,
             largest: Self::LARGEST,
             unused: Self::UNUSED,
             at: Self::AT,
             width: Self::WIDTH,
         }
-    }
-
-    pub fn accepts(v: u16) -> bool
-        ensures { λ r. ⌜ r ≡ accepts Setting.Balance v ⌝ }
-    {
-        v <= Self::LARGEST
     }
 }
 
@@ -306,22 +335,21 @@ impl PipH {
     pub const AT: usize = 23;
 
     pub fn row() -> Row
-        ensures { λ r. ⌜ r ≡ rowOf Setting.PipH ⌝ }
+        ensures { λ r. ⌜ r ≡ pipH ⌝ }
     {
+        let values = Values::Range {
+            least: 0,
+            most: Self::LARGEST,
+        };
         Row {
             page: Self::PAGE,
             code: Self::CODE,
+            values,
             largest: Self::LARGEST,
             unused: Self::UNUSED,
             at: Self::AT,
             width: Self::WIDTH,
         }
-    }
-
-    pub fn accepts(v: u16) -> bool
-        ensures { λ r. ⌜ r ≡ accepts Setting.PipH v ⌝ }
-    {
-        v <= Self::LARGEST
     }
 }
 
@@ -341,22 +369,21 @@ impl PipV {
     pub const AT: usize = 30;
 
     pub fn row() -> Row
-        ensures { λ r. ⌜ r ≡ rowOf Setting.PipV ⌝ }
+        ensures { λ r. ⌜ r ≡ pipV ⌝ }
     {
+        let values = Values::Range {
+            least: 0,
+            most: Self::LARGEST,
+        };
         Row {
             page: Self::PAGE,
             code: Self::CODE,
+            values,
             largest: Self::LARGEST,
             unused: Self::UNUSED,
             at: Self::AT,
             width: Self::WIDTH,
         }
-    }
-
-    pub fn accepts(v: u16) -> bool
-        ensures { λ r. ⌜ r ≡ accepts Setting.PipV v ⌝ }
-    {
-        v <= Self::LARGEST
     }
 }
 
@@ -376,22 +403,21 @@ impl AmbientLow {
     pub const AT: usize = 37;
 
     pub fn row() -> Row
-        ensures { λ r. ⌜ r ≡ rowOf Setting.AmbientLow ⌝ }
+        ensures { λ r. ⌜ r ≡ ambientLow ⌝ }
     {
+        let values = Values::Range {
+            least: 0,
+            most: Self::LARGEST,
+        };
         Row {
             page: Self::PAGE,
             code: Self::CODE,
+            values,
             largest: Self::LARGEST,
             unused: Self::UNUSED,
             at: Self::AT,
             width: Self::WIDTH,
         }
-    }
-
-    pub fn accepts(v: u16) -> bool
-        ensures { λ r. ⌜ r ≡ accepts Setting.AmbientLow v ⌝ }
-    {
-        v <= Self::LARGEST
     }
 }
 
@@ -411,22 +437,21 @@ impl AmbientHigh {
     pub const AT: usize = 44;
 
     pub fn row() -> Row
-        ensures { λ r. ⌜ r ≡ rowOf Setting.AmbientHigh ⌝ }
+        ensures { λ r. ⌜ r ≡ ambientHigh ⌝ }
     {
+        let values = Values::Range {
+            least: 0,
+            most: Self::LARGEST,
+        };
         Row {
             page: Self::PAGE,
             code: Self::CODE,
+            values,
             largest: Self::LARGEST,
             unused: Self::UNUSED,
             at: Self::AT,
             width: Self::WIDTH,
         }
-    }
-
-    pub fn accepts(v: u16) -> bool
-        ensures { λ r. ⌜ r ≡ accepts Setting.AmbientHigh v ⌝ }
-    {
-        v <= Self::LARGEST
     }
 }
 
@@ -446,24 +471,20 @@ impl Tile {
     pub const AT: usize = 51;
 
     pub fn row() -> Row
-        ensures { λ r. ⌜ r ≡ rowOf Setting.Tile ⌝ }
+        ensures { λ r. ⌜ r ≡ tile ⌝ }
     {
+        let values = Values::Range {
+            least: 1,
+            most: Self::LARGEST,
+        };
         Row {
             page: Self::PAGE,
             code: Self::CODE,
+            values,
             largest: Self::LARGEST,
             unused: Self::UNUSED,
             at: Self::AT,
             width: Self::WIDTH,
         }
-    }
-
-    pub fn accepts(v: u16) -> bool
-        ensures { λ r. ⌜ r ≡ accepts Setting.Tile v ⌝ }
-    {
-        if v < 1 {
-            return false;
-        }
-        v <= Self::LARGEST
     }
 }

@@ -1,18 +1,21 @@
 -- What a name at the front of a text and a field that was read say of the text and of numbers.
 use Prim.Native.Nat.{ℕ, _+_, _-_, _<_, _≤_}
-use mathlib.Core.Bool.{Bool, true, false, cond, _&&_, and-false}
+use mathlib.Core.Bool.{Bool, true, false, cond, not, _&&_, and-false}
 use mathlib.Core.List.{List, [], _∷_}
-use mathlib.Core.Option.{Option, none, some, bind, Option·none-ne-some}
-use mathlib.Core.Path.{_≡_, refl}
+use mathlib.Core.Option.{Option, none, some, bind, Option·map, Option·none-ne-some}
+use mathlib.Core.Path.{_≡_, refl, sym, _∙_}
 use native.Mathlib.Numerals.{add-one}
 use native.Mathlib.Omega.{arith}
-use borrow.Author.Tests.{leb-true}
+use borrow.Author.Tests.{leb-true, not-false}
 use lib.Dec.{leb, eqb}
 use lib.ListN.{length, getD, take, drop, length-drop}
 use lib.Seq.{take-all, drop-cons}
 use Rattle.wire.specs.Digits.{twoAt}
-use Rattle.wire.proofs.DigitLaws.{cond-by}
+use Rattle.wire.proofs.Tests.{cond-by}
 use Rattle.messages.specs.Read.{beginsWith, flagAt}
+use Rattle.messages.specs.declared.message.Date.{Date}
+use Rattle.text_fields.specs.View.{foundDate}
+use Rattle.text_fields.specs.declared.DateField.{DateField}
 
 -- the part `&t[a..]` is `drop a t`
 pub part-rest : (a : ℕ) (t : List ℕ) → take (length t - a) (drop a t) ≡ drop a t
@@ -31,6 +34,14 @@ begins-length (a ∷ name) [] e = let z : _≡_ {A = ℕ} 0 1 = cc in omega arit
 begins-length (a ∷ name) (b ∷ t) e =
     let h = begins-length name t (second-of-and (eqb a b) (beginsWith name t) e) in
     omega arith
+
+-- the same of a call's answer, for the rest behind a name of n bytes
+module _ (n : ℕ) (t : List ℕ) (r : Bool) where
+  pub room-behind : r ≡ true → (name : List ℕ) → r ≡ beginsWith name t → n ≡ length name → n ≤ length t
+  room-behind e name told q = rw q (begins-length name t (sym told ∙ e))
+
+  pub room-behind-not : not r ≡ false → (name : List ℕ) → r ≡ beginsWith name t → n ≡ length name → n ≤ length t
+  room-behind-not e = room-behind (not-false r e)
 
 pub begins-short : (name t : List ℕ) → length t < length name → beginsWith name t ≡ false
 unfolding beginsWith
@@ -56,3 +67,12 @@ flag-within (some m) {n} =
 pub flag-below : (t : List ℕ) (at : ℕ) {n : ℕ} → flagAt t at ≡ some n → n ≤ 1
 unfolding flagAt
 flag-below t at = flag-within (twoAt t at)
+
+-- ---- a way through the code beside a definition: what a call read
+
+module _ {A : Type 0} (o : Option Date) (f : Date → A) (z : Option A) (r : DateField) (told : foundDate r ≡ o) where
+  pub date-is : (d : Date) → r ≡ DateField.Is d → z ≡ some (f d) → z ≡ Option·map f o
+  date-is d e p = rw (← told, e) p
+
+  pub date-bad : r ≡ DateField.Bad → z ≡ none → z ≡ Option·map f o
+  date-bad e p = rw (← told, e) p

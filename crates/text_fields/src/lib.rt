@@ -1,19 +1,19 @@
 // The fields of a text.
 ghost use mathlib.Core.Path.{_≡_};
-ghost use Prim.Native.Nat.{_+_, _<_, _≤_};
+ghost use Prim.Native.Nat.{_+_, _<_};
 ghost use lib.ListN.{length};
 ghost use Rattle.wire.specs.Digits.{octet};
 ghost use Rattle.messages.specs.Read.{beginsWith, isName, flagAt, modeAt, dateIn};
-ghost use Rattle.text_fields.specs.View.{outcomeOf, modeOf, dateOf};
+ghost use Rattle.text_fields.specs.View.{foundStatus, foundMode, foundDate};
 use messages::message::Date;
-use messages::message::Outcome;
 use messages::message::PowerMode;
+use messages::message::Status;
 use wire::digits;
 use wire::digits::Octet;
 use wire::digits::Word;
 
-pub enum OutcomeField {
-    Is(Outcome),
+pub enum StatusField {
+    Is(Status),
     Bad,
 }
 
@@ -70,23 +70,23 @@ pub fn flag_at(text: &[u8], at: usize) -> Octet
 }
 
 // A result or a status.
-pub fn outcome_at(text: &[u8], at: usize) -> OutcomeField
+pub fn status_at(text: &[u8], at: usize) -> StatusField
     requires { ⌜ at + 1 < length (now text) ⌝ }
-    ensures { λ r. ⌜ outcomeOf r ≡ flagAt (now (text .entry)) at ⌝ }
+    ensures { λ r. ⌜ foundStatus r ≡ flagAt (now (text .entry)) at ⌝ }
 {
     let Octet::Value(n) = flag_at(text, at) else {
-        return OutcomeField::Bad;
+        return StatusField::Bad;
     };
     if n == 0 {
-        return OutcomeField::Is(Outcome::Acknowledged);
+        return StatusField::Is(Status::Acknowledged);
     }
-    OutcomeField::Is(Outcome::Refused)
+    StatusField::Is(Status::Refused)
 }
 
 // The mode of a power status.
 pub fn mode_at(text: &[u8], at: usize) -> ModeField
     requires { ⌜ at + 3 < length (now text) ⌝ }
-    ensures { λ r. ⌜ modeOf r ≡ modeAt (now (text .entry)) at ⌝ }
+    ensures { λ r. ⌜ foundMode r ≡ modeAt (now (text .entry)) at ⌝ }
 {
     let Word::Value(n) = digits::four_at(text, at) else {
         return ModeField::Bad;
@@ -103,41 +103,26 @@ pub fn mode_at(text: &[u8], at: usize) -> ModeField
     ModeField::Bad
 }
 
-// The seven fields of a date.
+// The seven fields of a date, two digits each.
 pub fn date_in(text: &[u8]) -> DateField
-    ensures { λ r. ⌜ dateOf r ≡ dateIn (now (text .entry)) ⌝ }
+    ensures { λ r. ⌜ foundDate r ≡ dateIn (now (text .entry)) ⌝ }
 {
     if text.len() != 14 {
         return DateField::Bad;
     }
-    let Octet::Value(year) = digits::two_at(text, 0) else {
+    let fields = digits::octets_in(text);
+    let good = fields.good;
+    if !good {
         return DateField::Bad;
-    };
-    let Octet::Value(month) = digits::two_at(text, 2) else {
-        return DateField::Bad;
-    };
-    let Octet::Value(day) = digits::two_at(text, 4) else {
-        return DateField::Bad;
-    };
-    let Octet::Value(weekday) = digits::two_at(text, 6) else {
-        return DateField::Bad;
-    };
-    let Octet::Value(hour) = digits::two_at(text, 8) else {
-        return DateField::Bad;
-    };
-    let Octet::Value(minute) = digits::two_at(text, 10) else {
-        return DateField::Bad;
-    };
-    let Octet::Value(daylight) = digits::two_at(text, 12) else {
-        return DateField::Bad;
-    };
+    }
+    let field = fields.bytes;
     DateField::Is(Date {
-        year,
-        month,
-        day,
-        weekday,
-        hour,
-        minute,
-        daylight,
+        year: field[0],
+        month: field[1],
+        day: field[2],
+        weekday: field[3],
+        hour: field[4],
+        minute: field[5],
+        daylight: field[6],
     })
 }

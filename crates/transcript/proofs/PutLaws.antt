@@ -5,12 +5,9 @@ use mathlib.Core.Path.{_≡_, refl, sym, _∙_}
 use native.Mathlib.Omega.{arith}
 use native.Mathlib.Numerals.{add-one}
 use lib.ListN.{length, take, drop, set, length-append}
-use lib.Seq.{paste, length-paste, take-length, take-append-seam, drop-append-seam, set-split, append-snoc}
+use lib.Seq.{paste, paste-zero, length-paste, take-length, take-append-seam, drop-append-seam, set-split, append-snoc}
 use Rattle.wire.proofs.DigitLaws.{paste-more}
-
--- t written from a place on: the place behind it, and the buffer
-abbrev pub Put : List ℕ → ℕ → List ℕ → ℕ → List ℕ → Type 0
-Put o at t r b = (r ≡ at + length t) × (b ≡ paste o at t (length t))
+use Rattle.transcript.specs.Inner.{Put}
 
 paste-behind : (o : List ℕ) (at : ℕ) (s t : List ℕ) → at + length s ≤ length o
     → paste (paste o at s (length s)) (at + length s) t (length t) ≡ paste o at (s ++ t) (length (s ++ t))
@@ -19,6 +16,10 @@ paste-behind o at s t h =
     let rest : take (length t) (drop (length s) (s ++ t)) ≡ t = rw drop-append-seam (take-length t) in
     let front : take (length s) (s ++ t) ≡ take (length s) s = take-append-seam s t ∙ sym (take-length s) in
     rw (length-append s t, ← paste-more o at (s ++ t) (length s) t h few rest, front)
+
+-- no byte
+pub put-none : (o : List ℕ) (at : ℕ) (t : List ℕ) → t ≡ [] → Put o at t at o
+put-none o at t e = rw e (omega arith, paste-zero o at [])
 
 pub put-one : (o : List ℕ) (at b : ℕ) → at < length o → set o at b ≡ paste o at (b ∷ []) 1
 put-one o at b h = set-split o at b h ∙ rw (append-snoc (take at o) b (drop (at + 1) o), add-one at)

@@ -1,4 +1,4 @@
--- The transcript of a line (document 01, 'Lessons with numbers'): bytes are given to a board one by one, and 128 steps run when an erase
+-- The transcript of a line (docs/RULES.md, 'Worked examples', RT4): bytes are given to a board one by one, and 128 steps run when an erase
 -- begins. A line tells each answer other than waiting and more: bytes read so far, kind, then reply bytes or the refusal's number.
 use mathlib.Core.Bool.{Bool, true, false, cond, _&&_}
 use mathlib.Core.List.{List, [], _∷_, _++_}
@@ -8,10 +8,10 @@ use lib.Dec.{ltb, leb, eqb}
 use lib.ListN.{length, take}
 use Rattle.wire.specs.Digits.{hexOf}
 use Rattle.wire.specs.Packet.{over}
-use Rattle.erase.specs.Board.{Answer, waiting, silent, begun, more, ended, refused, reply}
-use Rattle.erase.specs.Calls.{onCall, onStep}
+use Rattle.calls.specs.Board.{Answer, waiting, silent, begun, more, ended, refused, reply}
+use Rattle.calls.specs.Calls.{onCall, onStep}
 use Rattle.packets.specs.Packets.{BoardState}
-use Rattle.board.specs.Calls.{byte, thisBoard}
+use Rattle.board.specs.BoardKind.{byte, boardKind}
 use Rattle.packets.specs.View.{Result, result}
 
 -- ---- a line
@@ -70,9 +70,9 @@ isBegun (refused n) = false
 isBegun (reply n) = false
 
 -- steps, one after another
-unfoldable pub stepped : ℕ → Result → Result
-stepped zero r = r
-stepped (suc n) r = result (onStep thisBoard (stepped n r .state) (stepped n r .store) (stepped n r .buffer)) (stepped n r .store)
+unfoldable pub afterSteps : ℕ → Result → Result
+afterSteps zero r = r
+afterSteps (suc n) r = result (onStep boardKind (afterSteps n r .state) (afterSteps n r .store) (afterSteps n r .buffer)) (afterSteps n r .store)
 
 -- what the last call left, and the lines
 pub record Transcribed : Type 0 where
@@ -83,11 +83,11 @@ pub record Transcribed : Type 0 where
 unfoldable pub transcribedFrom : ℕ → Result → Transcribed
 transcribedFrom at r =
     cond (isBegun (r .answer))
-    (record { last = stepped 128 r; lines = lineOf at (r .answer) (r .buffer) ++ lineOf at (stepped 128 r .answer) (stepped 128 r .buffer) })
+    (record { last = afterSteps 128 r; lines = lineOf at (r .answer) (r .buffer) ++ lineOf at (afterSteps 128 r .answer) (afterSteps 128 r .buffer) })
     (record { last = r; lines = lineOf at (r .answer) (r .buffer) })
 
 abbrev pub transcribed : ℕ → ℕ → BoardState → List ℕ → List ℕ → Transcribed
-transcribed at b s m lent = transcribedFrom at (result (onCall thisBoard (byte b) s m lent) m)
+transcribed at b s m lent = transcribedFrom at (result (onCall boardKind (byte b) s m lent) m)
 
 -- the board, store and reply buffer after a byte, and its lines at the start of a buffer
 pub record Told (t : Transcribed) (s : BoardState) (n : ℕ) (store lent before after : List ℕ) : Type 0 where

@@ -4,6 +4,7 @@ ghost use Prim.Native.Nat.{_+_, _≤_};
 ghost use lib.ListN.{length};
 ghost use lib.Seq.{paste};
 ghost use Rattle.transcript.specs.Transcript.{decimal, digitsWithin};
+ghost use Rattle.transcript.specs.Inner.{PutFew};
 
 // Writes a number in decimal from a place on; the place behind it.
 pub fn put_decimal(out: &mut [u8], at: usize, n: u64) -> usize
@@ -16,7 +17,7 @@ pub fn put_decimal(out: &mut [u8], at: usize, n: u64) -> usize
 // Writes the last digits of a number, at most so many, without leading zeros.
 fn put_digits(out: &mut [u8], at: usize, n: u64, most: usize) -> usize
     requires { ⌜ at + most ≤ length (now out) ⌝ }
-    ensures { λ r. ⌜ (r ≡ at + length (digitsWithin most n)) × (now (out .exit) ≡ paste (now (out .entry)) at (digitsWithin most n) (length (digitsWithin most n))) ⌝ }
+    ensures { λ r. ⌜ PutFew most (now (out .entry)) at (digitsWithin most n) r (now (out .exit)) ⌝ }
 {
     if most == 0 {
         return at;

@@ -1,6 +1,6 @@
 -- Digits are read back as the number or the bytes that were written, and what is read is no larger than its digits allow.
 use Prim.Native.Nat.{ℕ, zero, suc, _+_, _*_, _/_, _%_, _<_, _≤_}
-use mathlib.Core.Bool.{Bool, true, false, cond}
+use mathlib.Core.Bool.{cond}
 use mathlib.Core.List.{List, [], _∷_, _++_, append-nil, append-assoc}
 use mathlib.Core.Option.{Option, none, some, Option·map, Option·none-ne-some}
 use mathlib.Core.Path.{_≡_, refl, sym, ap, _∙_}
@@ -21,13 +21,9 @@ use Rattle.wire.specs.Digits.{
   fourAt,
   cons,
   unhex,
-  bytesOf,
+  octetsIn,
 }
-
--- what holds of both outcomes of a test
-pub cond-by : {A : Type 0} (P : A → Type 0) (t : Bool) (x y : A) → (t ≡ true → P x) → (t ≡ false → P y) → P (cond t x y)
-cond-by P true x y p q = p refl
-cond-by P false x y p q = q refl
+use Rattle.wire.proofs.Tests.{cond-by}
 
 -- ---- how large a number can be
 
@@ -70,8 +66,12 @@ unfolding valueOf
 digit-back n h =
     cond-by (λ (b : ℕ). valueOf b ≡ some n) (ltb n 10) _ _
     (λ t. let k = ltb-true n 10 t in rw (le-ltb (0x30 + n) 0x30 (omega arith), le-leb (0x30 + n) 0x39 (omega arith)) (ap some (omega arith)))
-    (λ t. let k = ltb-false n 10 t in rw
-    (le-ltb (0x37 + n) 0x30 (omega arith), lt-leb (0x37 + n) 0x39 (omega arith), le-ltb (0x37 + n) 0x41 (omega arith), le-leb (0x37 + n) 0x46 (omega arith))
+    (λ t. let k = ltb-false n 10 t in rw (
+      le-ltb (0x37 + n) 0x30 (omega arith),
+      lt-leb (0x37 + n) 0x39 (omega arith),
+      le-ltb (0x37 + n) 0x41 (omega arith),
+      le-leb (0x37 + n) 0x46 (omega arith),
+    )
     (ap some (omega arith)))
 
 pub digit-is-byte : (n : ℕ) → n < 16 → digitOf n < 256
@@ -116,8 +116,8 @@ unfolding hexOf unhex
 unhex-hex [] h = refl
 unhex-hex (b ∷ bs) h = rw (two-back b (h 0), unhex-hex bs (λ i. h (suc i)))
 
-pub bytes-back : (s : List ℕ) → Bytes s → length s ≤ 16 → bytesOf (hexOf s) ≡ some s
-unfolding bytesOf
+pub bytes-back : (s : List ℕ) → Bytes s → length s ≤ 16 → octetsIn (hexOf s) ≡ some s
+unfolding octetsIn
 bytes-back s h few = rw (le-ltb 32 (length (hexOf s)) (omega (arith, hex-length s))) (unhex-hex s h)
 
 -- what was read has two digits for each byte, and bytes only
@@ -142,20 +142,20 @@ unhex-read (h ∷ l ∷ t) =
     cons-read t h l (join 16 (valueOf h) (valueOf l)) (unhex t)
     (join-within 16 16 (valueOf h) (valueOf l) (digit-within h) (digit-within l)) (unhex-read t)
 
-bytes-told : (t : List ℕ) {s : List ℕ} → bytesOf t ≡ some s → (length t ≤ 32) × Read t (some s)
-unfolding bytesOf
+bytes-told : (t : List ℕ) {s : List ℕ} → octetsIn t ≡ some s → (length t ≤ 32) × Read t (some s)
+unfolding octetsIn
 bytes-told t {s} =
     cond-by (λ (o : Option (List ℕ)). o ≡ some s → (length t ≤ 32) × Read t (some s)) (ltb 32 (length t)) none (unhex t)
     (λ _ e. absurd (Option·none-ne-some s e))
     (λ f e. (ltb-false 32 (length t) f, rw e at (unhex-read t)))
 
-pub bytes-length : (t : List ℕ) {s : List ℕ} → bytesOf t ≡ some s → length t ≡ length s + length s
+pub bytes-length : (t : List ℕ) {s : List ℕ} → octetsIn t ≡ some s → length t ≡ length s + length s
 bytes-length t e = bytes-told t e .1 .0
 
-pub bytes-are-bytes : (t : List ℕ) {s : List ℕ} → bytesOf t ≡ some s → Bytes s
+pub bytes-are-bytes : (t : List ℕ) {s : List ℕ} → octetsIn t ≡ some s → Bytes s
 bytes-are-bytes t e = bytes-told t e .1 .1
 
-pub bytes-few : (t : List ℕ) {s : List ℕ} → bytesOf t ≡ some s → length s ≤ 16
+pub bytes-few : (t : List ℕ) {s : List ℕ} → octetsIn t ≡ some s → length s ≤ 16
 bytes-few t e = let told = bytes-told t e in omega arith
 
 -- ---- bytes read one after the other
@@ -195,10 +195,12 @@ unhex-end t p i h k =
 -- ---- digits written one after the other
 
 -- a copy of i elements, and right behind it of those that follow, is a copy of all
-pub paste-more : (o : List ℕ) (at : ℕ) (s : List ℕ) (i : ℕ) (t : List ℕ) → at + i ≤ length o → i ≤ length s → take (length t) (drop i s) ≡ t
+pub paste-more : (o : List ℕ) (at : ℕ) (s : List ℕ) (i : ℕ) (t : List ℕ)
+    → at + i ≤ length o → i ≤ length s → take (length t) (drop i s) ≡ t
     → paste (paste o at s i) (at + i) t (length t) ≡ paste o at s (i + length t)
 paste-more o at s i t h f e =
     let g : at ≤ length o = omega arith in
     let place : at + (i + length t) ≡ at + i + length t = omega arith in
-    let rest = sym (drop-drop (length t) (at + i) (paste o at s i)) ∙ ap (drop (length t)) (drop-paste o at s i g f) ∙ drop-drop (length t) (at + i) o in
+    let apart = sym (drop-drop (length t) (at + i) (paste o at s i)) in
+    let rest = apart ∙ ap (drop (length t)) (drop-paste o at s i g f) ∙ drop-drop (length t) (at + i) o in
     rw (take-paste o at s i g f, take-length t, rest, place, take-add i (length t) s, e, append-assoc (take at o) (take i s) t)

@@ -1,6 +1,6 @@
 -- Laws of packets: writing right behind what is written, a packet's parts, and what its judges say of it.
 use Prim.Native.Nat.{ℕ, _+_, _-_, _≤_, _<_}
-use mathlib.Core.Bool.{Bool, true, false, cond, not, _&&_}
+use mathlib.Core.Bool.{Bool, true, false, cond, not}
 use mathlib.Core.List.{List, [], _∷_, _++_, append-assoc}
 use mathlib.Core.Option.{Option, none, some}
 use mathlib.Core.Path.{_≡_, refl, sym, ap, _∙_}
@@ -11,8 +11,9 @@ use lib.Dec.{leb, eqb}
 use lib.ListN.{length, take, drop, set, getD, length-append, length-drop, List·getD-append}
 use lib.Seq.{paste, take-at, take-length, drop-append-add, drop-drop, set-at, drop-cons, append-snoc, getD-append-add}
 use Rattle.wire.specs.Digits.{two, twoAt}
-use Rattle.wire.specs.Packet.{soh, stx, etx, cr, zeroByte, xorOf, covered, packet, over, sizeFrom, size, checkCode, textOf}
-use Rattle.wire.specs.Judge.{Verdict, good, refused, isRequestType, inLimits, isLength, headerVerdict, packetVerdict}
+use Rattle.wire.specs.Packet.{soh, stx, etx, cr, zeroByte, xorOf, covered, packet, over, sizeFrom, size, checkCode, packetText}
+use Rattle.wire.specs.Judge.{Verdict, good, refused, isRequestType, inLimits, isLength, headerVerdict, endsInReturn, hasCheckCode, isMessage, packetVerdict}
+use Rattle.wire.proofs.Tests.{both}
 use Rattle.wire.proofs.DigitLaws.{two-back, two-at-append}
 
 -- ---- writing right behind what is written
@@ -62,8 +63,8 @@ module _ (dest source kind : ℕ) (text : List ℕ) where
     unfolding size
     size-packet = rw packet-two (omega arith)
 
-    pub text-packet : textOf (packet dest source kind text) ≡ text
-    unfolding textOf
+    pub text-packet : packetText (packet dest source kind text) ≡ text
+    unfolding packetText
     text-packet =
         let e : length text ≡ size (packet dest source kind text) - 11 = rw size-packet (omega arith) in
         ap (λ (p : List ℕ). take (size (packet dest source kind text) - 11) (drop 8 p)) packet-parts
@@ -90,13 +91,24 @@ module _ (dest source kind : ℕ) (text : List ℕ) where
   unfolding isLength
   packet-limits least most = rw (packet-two most, le-leb 4 (length text + 2) (omega arith), le-leb (length text + 2) 64 (omega arith))
 
-  pub packet-good : length text ≤ 62 → packetVerdict (packet dest source kind text) ≡ good
-  unfolding packetVerdict
-  packet-good most =
-      let p = packet dest source kind text in
-      let return = eq-eqb (getD p (size p - 1) 0) cr (packet-end most 2 (omega arith)) in
-      let code = eq-eqb (getD p (size p - 2) 0) (checkCode p) (packet-end most 1 (omega arith) ∙ sym (packet-code most)) in
-      rw (return, code, packet-stx, eq-eqb (getD p (size p - 3) 0) etx (packet-end most 0 (omega arith)))
+  module _ (most : length text ≤ 62) where
+    pub packet-returns : endsInReturn (packet dest source kind text) ≡ true
+    unfolding endsInReturn
+    packet-returns = eq-eqb _ cr (packet-end most 2 (omega arith))
+
+    pub packet-checks : hasCheckCode (packet dest source kind text) ≡ true
+    unfolding hasCheckCode
+    packet-checks = eq-eqb _ _ (packet-end most 1 (omega arith) ∙ sym (packet-code most))
+
+    pub packet-message : isMessage (packet dest source kind text) ≡ true
+    unfolding isMessage
+    packet-message =
+        let p = packet dest source kind text in
+        rw (packet-stx, eq-eqb (getD p (size p - 3) 0) etx (packet-end most 0 (omega arith)))
+
+    pub packet-good : packetVerdict (packet dest source kind text) ≡ good
+    unfolding packetVerdict
+    packet-good = rw (packet-returns, packet-checks, packet-message)
 
 pub header-packet : (dest kind : ℕ) (text : List ℕ) → isRequestType kind ≡ true → 2 ≤ length text → length text ≤ 62
     → headerVerdict (packet dest zeroByte kind text) ≡ good
@@ -113,8 +125,12 @@ module _ (h t : List ℕ) (seven : 7 ≤ length h) where
   pub header-append : headerVerdict (h ++ t) ≡ headerVerdict h
   unfolding headerVerdict isLength
   header-append =
-      rw
-      (List·getD-append h t 0 1 (omega arith), List·getD-append h t 0 3 (omega arith), List·getD-append h t 0 4 (omega arith), two-at-append h t 5 (omega arith))
+      rw (
+        List·getD-append h t 0 1 (omega arith),
+        List·getD-append h t 0 3 (omega arith),
+        List·getD-append h t 0 4 (omega arith),
+        two-at-append h t 5 (omega arith),
+      )
 
 -- ---- what a good header says
 
@@ -122,10 +138,6 @@ module _ (h t : List ℕ) (seven : 7 ≤ length h) where
 pub good-passed : (t : Bool) (n : ℕ) (v : Verdict) → cond (not t) (refused n) v ≡ good → (t ≡ true) × (v ≡ good)
 good-passed true n v e = (refl, e)
 good-passed false n v e = let z : _≡_ {A = ℕ} 0 1 = cc in absurd (omega arith)
-
-both : (a b : Bool) → (a && b) ≡ true → (a ≡ true) × (b ≡ true)
-both true b e = (refl, e)
-both false b e = let z : _≡_ {A = ℕ} 0 1 = cc in absurd (omega arith)
 
 limits-size : (o : Option ℕ) → inLimits o ≡ true → (13 ≤ sizeFrom o) × (sizeFrom o ≤ 73)
 limits-size none e = let z : _≡_ {A = ℕ} 0 1 = cc in absurd (omega arith)

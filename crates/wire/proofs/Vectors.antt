@@ -1,4 +1,4 @@
--- Worked bytes: the digits as a table, the addresses, and packets that document 01 prints.
+-- Worked bytes: the digits as a table, the addresses, and packets of docs/RULES.md, 'Worked examples'.
 use Prim.Native.Nat.{ℕ, zero, suc}
 use mathlib.Core.List.{List, [], _∷_, _++_, map}
 use mathlib.Core.Option.{none, some}
@@ -30,7 +30,7 @@ digits-written = refl
 pub addresses : map addressOf (upFrom 1 8) ≡ (0x41 ∷ 0x42 ∷ 0x43 ∷ 0x44 ∷ 0x45 ∷ 0x46 ∷ 0x47 ∷ 0x48 ∷ [])
 addresses = refl
 
--- document 01's P1, P2, P2 sent to ID 8, P5 and P8, whose check codes are 77h, 04h, 0Dh, 1Ch and 01h
+-- P1, P2, P2 sent to ID 8, P5 and P8, whose check codes are 77h, 04h, 0Dh, 1Ch and 01h
 pub packets : (packet 0x41 0x30 0x45 (0x30 ∷ 0x30 ∷ 0x31 ∷ 0x30 ∷ 0x30 ∷ 0x30 ∷ 0x36 ∷ 0x34 ∷ [])
     ∷ packet 0x41 0x30 0x43 (0x30 ∷ 0x30 ∷ 0x31 ∷ 0x30 ∷ [])
     ∷ packet 0x48 0x30 0x43 (0x30 ∷ 0x30 ∷ 0x31 ∷ 0x30 ∷ [])

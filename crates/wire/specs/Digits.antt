@@ -1,4 +1,4 @@
--- Numbers on the wire (document 01, 'Packet'): hexadecimal digits 0-9 and A-F, capitals only, high digit first.
+-- Numbers on the wire (docs/RULES.md, 'Packets', PK3): hexadecimal digits 0-9 and A-F, capitals only, high digit first.
 use mathlib.Core.Bool.{cond}
 use mathlib.Core.List.{List, [], _∷_}
 use mathlib.Core.Option.{Option, none, some, Option·map}
@@ -74,8 +74,8 @@ unhex (h ∷ []) = none
 unhex (h ∷ l ∷ t) = cons (join 16 (valueOf h) (valueOf l)) (unhex t)
 
 -- the same for at most 16 bytes, as serial numbers, models and tags have
-unfoldable pub bytesOf : List ℕ → Option (List ℕ)
-bytesOf t = cond (ltb 32 (length t)) none (unhex t)
+unfoldable pub octetsIn : List ℕ → Option (List ℕ)
+octetsIn t = cond (ltb 32 (length t)) none (unhex t)
 
 -- ---- what the code's answers mean
 
@@ -87,6 +87,6 @@ abbrev pub word : Word → Option ℕ
 word (Word.Value n) = some n
 word Word.Bad = none
 
--- what lies in the array past the count is nobody's
+-- the first bytes of the array, as many as are counted
 abbrev pub octets : Octets → Option (List ℕ)
 octets o = cond (o .good) (some (take (o .count) (o .bytes))) none

@@ -2,3 +2,4 @@ pub mod Refusal
 pub mod Digits
 pub mod Packet
 pub mod Judge
+pub mod Inner

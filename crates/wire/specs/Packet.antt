@@ -1,10 +1,10 @@
--- Packets (document 01, 'Packet'): a header of seven bytes, the message from STX to ETX, a check code and CR.
+-- Packets (docs/RULES.md, 'Packets', PK1 to PK5): a header of seven bytes, the message from STX to ETX, a check code and CR.
 -- Every position behind the header is said from `size`, the number of bytes of the whole packet.
 use mathlib.Core.List.{List, [], _∷_, _++_}
 use mathlib.Core.Option.{Option, none, some}
-use Prim.Native.Nat.{ℕ, _+_, _-_, _≤_}
+use Prim.Native.Nat.{ℕ, _+_, _-_}
 use lib.Bits.{bitXor}
-use lib.ListN.{length, take, drop, getD}
+use lib.ListN.{length, take, drop}
 use Rattle.wire.specs.Digits.{two, twoAt}
 
 abbrev pub soh : ℕ
@@ -27,9 +27,56 @@ zeroByte = 0x30
 abbrev pub allAddress : ℕ
 allAddress = 0x2A
 
--- the address of a monitor ID: 41h for 1, 48h for 8
+-- monitor IDs are 1 to 8
+abbrev pub leastId : ℕ
+leastId = 1
+
+abbrev pub mostId : ℕ
+mostId = 8
+
+-- a monitor's address is its ID past this: 41h for 1, 48h for 8
+abbrev pub addressBase : ℕ
+addressBase = 0x40
+
 abbrev pub addressOf : ℕ → ℕ
-addressOf id = 0x40 + id
+addressOf id = addressBase + id
+
+-- the types: a command and its reply, Get and its reply, Set and its reply
+abbrev pub typeA : ℕ
+typeA = 0x41
+
+abbrev pub typeB : ℕ
+typeB = 0x42
+
+abbrev pub typeC : ℕ
+typeC = 0x43
+
+abbrev pub typeD : ℕ
+typeD = 0x44
+
+abbrev pub typeE : ℕ
+typeE = 0x45
+
+abbrev pub typeF : ℕ
+typeF = 0x46
+
+-- L, which counts the message from STX to ETX, is 4 to 64; a packet has 9 bytes besides
+abbrev pub leastL : ℕ
+leastL = 4
+
+abbrev pub mostL : ℕ
+mostL = 64
+
+-- the least and the most bytes of a packet
+abbrev pub leastPacket : ℕ
+leastPacket = 13
+
+abbrev pub mostPacket : ℕ
+mostPacket = 73
+
+-- a lent buffer for a packet has at least 64 bytes; no packet that is written is longer
+abbrev pub leastBuffer : ℕ
+leastBuffer = 64
 
 -- ---- a packet as written
 
@@ -62,12 +109,6 @@ replyPacket source kind text = packet zeroByte source kind text
 unfoldable pub over : List ℕ → List ℕ → List ℕ
 over p buffer = p ++ drop (length p) buffer
 
--- a text that a packet can hold, and a buffer that holds the packet: L, which counts STX and ETX too, is 4 to 64
-pub record Fits (text buffer : List ℕ) : Type 0 where
-  pub least : 2 ≤ length text
-  pub most : length text ≤ 62
-  pub room : length text + 11 ≤ length buffer
-
 -- ---- a packet as received
 
 abbrev pub sizeFrom : Option ℕ → ℕ
@@ -83,5 +124,5 @@ unfoldable pub checkCode : List ℕ → ℕ
 checkCode p = xorOf (take (size p - 3) (drop 1 p))
 
 -- the text of a packet, between STX and ETX
-unfoldable pub textOf : List ℕ → List ℕ
-textOf p = take (size p - 11) (drop 8 p)
+unfoldable pub packetText : List ℕ → List ℕ
+packetText p = take (size p - 11) (drop 8 p)

@@ -1,4 +1,4 @@
--- Refusals (document 01, the table under 'How bytes become a packet'): the number of each case.
+-- Refusals (docs/RULES.md, the table in 'Calls'): the number of each case.
 use Prim.Native.Nat.{ℕ}
 use Rattle.wire.specs.declared.refusal.Refusal.{Refusal}
 

@@ -1,9 +1,9 @@
 // Hexadecimal digits, written and read.
 ghost use mathlib.Core.Path.{_≡_};
-ghost use Prim.Native.Nat.{_+_, _/_, _%_, _<_, _≤_};
+ghost use Prim.Native.Nat.{_+_, _<_, _≤_};
 ghost use lib.ListN.{length};
 ghost use lib.Seq.{paste};
-ghost use Rattle.wire.specs.Digits.{digitOf, two, four, hexOf, valueOf, twoAt, fourAt, bytesOf, octet, word, octets};
+ghost use Rattle.wire.specs.Digits.{digitOf, two, four, hexOf, valueOf, twoAt, fourAt, octetsIn, octet, word, octets};
 
 // What one or two digits give.
 pub enum Octet {
@@ -72,8 +72,8 @@ pub fn four_at(s: &[u8], at: usize) -> Word
 }
 
 // The bytes that two digits each give, at most 16 of them.
-pub fn bytes_of(t: &[u8]) -> Octets
-    ensures { λ r. ⌜ octets r ≡ bytesOf (now (t .entry)) ⌝ }
+pub fn octets_in(t: &[u8]) -> Octets
+    ensures { λ r. ⌜ octets r ≡ octetsIn (now (t .entry)) ⌝ }
 {
     let mut bytes = [0u8; 16];
     let n = t.len();

@@ -1,18 +1,40 @@
 -- A date that is accepted may be stored; another is refused.
 use borrow.Author.Needs.{needs}
+use mathlib.Core.Bool.{Bool, true, false, not}
+use mathlib.Core.List.{List, []}
 use mathlib.Core.Path.{_≡_, sym, _∙_}
-use mathlib.Core.Bool.{true}
-use mathlib.Core.List.{[]}
+use Prim.Native.Nat.{ℕ}
+use lib.Dec.{eqb}
 use borrow.Author.Tests.{not-true, not-false}
-use Rattle.store.specs.Contents.{isStorable, isAccepted}
-use Rattle.store.proofs.StoreLaws.{both}
-use Rattle.actions.specs.Act.{dateWriteEffect}
+use Rattle.plan.specs.Stores.{Entry}
+use Rattle.messages.specs.View.{replyOf}
+use Rattle.messages.specs.declared.message.Date.{Date}
+use Rattle.messages.specs.declared.message.DateAnswer.{DateAnswer}
+use Rattle.messages.specs.declared.message.Reply.{Reply}
+use Rattle.messages.specs.declared.message.Status.{Status}
+use Rattle.store.specs.Contents.{isStorable, isAccepted, dateStores}
+use Rattle.wire.proofs.Tests.{both}
+use Rattle.actions.specs.Act.{says, replies, dateWriteEffect}
+use Rattle.actions.specs.Inner.{Decides}
+use Rattle.actions.specs.declared.Decision.{Decision}
 use Rattle.actions.proofs.Laws.{decides-as}
 use Rattle.actions.proofs.date_write.Statement.{statement}
 use Rattle.actions.proofs.date_write.Tie as tie
 
-accepted : (e : tie.Else1) → isAccepted (e .before .before .before .args .date) ≡ true
-accepted e = sym (e .before .is-accepted .ensures) ∙ not-false (e .before .is-accepted .result) (e .if1 .left)
+module _ (t : Date) {a : Bool} (test : a ≡ isAccepted t) where
+  storable : not a ≡ false → isStorable t ≡ true
+  unfolding isAccepted
+  storable n = both (isStorable t) (eqb (t .daylight) 0) (sym test ∙ not-false a n) .0
+
+  module _ (m : List ℕ) {d : Decision} where
+    refused : Decides d (says (replyOf (Reply.Date (DateAnswer.Written Status.Refused t)) [])) → not a ≡ true → Decides d (dateWriteEffect m t)
+    unfolding dateWriteEffect
+    refused h n = decides-as h (rw (← test, not-true a n))
+
+    written : {es : List Entry} → Decides d (replies (replyOf (Reply.Date (DateAnswer.Written Status.Acknowledged t)) []) es)
+        → es ≡ dateStores m t → not a ≡ false → Decides d (dateWriteEffect m t)
+    unfolding dateWriteEffect
+    written h e n = decides-as h (rw (e, ← test, not-false a n))
 
 is-accepted-requires : tie.Need-is-accepted-requires
 is-accepted-requires c κs = search needs
@@ -21,23 +43,16 @@ unchanged-requires : tie.Need-unchanged-requires
 unchanged-requires c κs = search needs
 
 returns : tie.Need-returns
-unfolding dateWriteEffect
-returns c =
-    let asked = c .before .before .is-accepted in
-    decides-as (c .unchanged .ensures []) (rw (sym (asked .ensures) ∙ not-true (asked .result) (c .before .if1 .taken)))
+returns c = search refused
 
 date-stores-requires : tie.Need-date-stores-requires
-unfolding isAccepted
-date-stores-requires c κs =
-    let start = c .before .before .before in
-    (start .pre .size, both (isStorable (start .args .date)) _ (accepted c) .0)
+date-stores-requires c κs = search (needs, storable)
 
 changed-requires : tie.Need-changed-requires
 changed-requires c κs = search needs
 
 returns-2 : tie.Need-returns-2
-unfolding dateWriteEffect
-returns-2 c = decides-as (c .changed .ensures []) (rw (c .before .date-stores .ensures, accepted (c .before .before)))
+returns-2 c = search written
 
 pub date-write-spec : {M : Type 1} → statement M
 date-write-spec =

@@ -1,16 +1,31 @@
--- The erase, an unlisted pair and a setting, in the order of the definition, each with its reply.
+-- The erase has its own reply, and what is listed the other function's.
 use borrow.Author.Needs.{needs}
-use mathlib.Core.Path.{_≡_, sym, ap, _∙_}
-use mathlib.Core.Bool.{false}
-use mathlib.Core.List.{[]}
-use Rattle.store.specs.Settings.{found}
-use Rattle.actions.specs.Act.{isErase, getEffect}
+use mathlib.Core.Bool.{Bool, true, false}
+use mathlib.Core.List.{List, []}
+use mathlib.Core.Path.{_≡_}
+use Prim.Native.Nat.{ℕ}
+use Rattle.messages.specs.View.{replyOf}
+use Rattle.messages.specs.declared.message.Parameter.{Parameter}
+use Rattle.messages.specs.declared.message.Reply.{Reply}
+use Rattle.messages.specs.declared.message.Status.{Status}
+use Rattle.store.specs.Settings.{settingAt}
+use Rattle.actions.specs.Act.{says, isErase, getListed, getEffect}
+use Rattle.actions.specs.Inner.{Decides}
+use Rattle.actions.specs.declared.Decision.{Decision}
 use Rattle.actions.proofs.Laws.{decides-as}
 use Rattle.actions.proofs.get.Statement.{statement}
 use Rattle.actions.proofs.get.Tie as tie
 
-no-erase : (e : tie.Else1) → let a = e .before .before .before .args in isErase (a .page) (a .code) ≡ false
-no-erase e = sym (e .before .is-erase .ensures) ∙ e .if1 .left
+module _ (m : List ℕ) (page code : ℕ) {d : Decision} {b : Bool} where
+  erase-shown : {p : Parameter} → Decides d (says (replyOf (Reply.Got Status.Acknowledged p) []))
+      → p ≡ record { page = page; code = code; operation = 1; largest = 1; value = 0 }
+      → b ≡ isErase page code → b ≡ true → Decides d (getEffect m page code)
+  unfolding getEffect
+  erase-shown h e q t = decides-as h (rw (e, ← q, t))
+
+  no-erase : Decides d (says (getListed m page code (settingAt page code))) → b ≡ isErase page code → b ≡ false → Decides d (getEffect m page code)
+  unfolding getEffect
+  no-erase h q t = decides-as h (rw (← q, t))
 
 is-erase-requires : tie.Need-is-erase-requires
 is-erase-requires c κs = search needs
@@ -22,53 +37,13 @@ unchanged-requires : tie.Need-unchanged-requires
 unchanged-requires c κs = search needs
 
 returns : tie.Need-returns
-unfolding getEffect
-returns c =
-    let erase = c .before .before in
-    decides-as (c .unchanged .ensures []) (rw (c .before .parameter .ensures, sym (erase .before .is-erase .ensures) ∙ erase .if1 .taken))
+returns c = search erase-shown
 
-at-requires : tie.Need-at-requires
-at-requires c κs = search needs
-
-enum-known-setting : tie.Need-enum-known-setting
-enum-known-setting c = search needs
-
-enum-told : tie.Need-enum-told
-enum-told c = search needs
-
-parameter-requires-2 : tie.Need-parameter-requires-2
-parameter-requires-2 c κs = search needs
-
-unchanged-requires-2 : tie.Need-unchanged-requires-2
-unchanged-requires-2 c κs = search needs
+get-listed-requires : tie.Need-get-listed-requires
+get-listed-requires c κs = search needs
 
 returns-2 : tie.Need-returns-2
-unfolding getEffect
-returns-2 c =
-    let at = c .before .before .before .before in
-    decides-as (c .unchanged2 .ensures [])
-    (rw (c .before .parameter2 .ensures, no-erase (at .before), sym (at .at .ensures) ∙ ap found (c .before .before .enum-told .given .1)))
-
-row-requires : tie.Need-row-requires
-row-requires c κs = search needs
-
-current-requires : tie.Need-current-requires
-current-requires c κs = search needs
-
-parameter-requires-3 : tie.Need-parameter-requires-3
-parameter-requires-3 c κs = search needs
-
-unchanged-requires-3 : tie.Need-unchanged-requires-3
-unchanged-requires-3 c κs = search needs
-
-returns-3 : tie.Need-returns-3
-unfolding getEffect
-returns-3 c =
-    let row = c .before .before .before in
-    let at = row .before .before .before .before in
-    decides-as (c .unchanged3 .ensures [])
-    (rw
-    (c .before .parameter3 .ensures, row .row .ensures, c .before .before .current .ensures, no-erase (at .before), sym (at .at .ensures) ∙ ap found (row .before .before .setting .given .1)))
+returns-2 c = search no-erase
 
 pub get-spec : {M : Type 1} → statement M
 get-spec =
@@ -78,14 +53,5 @@ get-spec =
     parameter-requires
     unchanged-requires
     returns
-    at-requires
-    enum-known-setting
-    enum-told
-    parameter-requires-2
-    unchanged-requires-2
-    returns-2
-    row-requires
-    current-requires
-    parameter-requires-3
-    unchanged-requires-3
-    returns-3)
+    get-listed-requires
+    returns-2)

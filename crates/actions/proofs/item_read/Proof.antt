@@ -1,80 +1,94 @@
 -- Each item has its text, whose count is at most the 16 bytes that are there.
 use borrow.Author.Needs.{needs}
-use mathlib.Core.Path.{refl}
-use Rattle.store.specs.Layout.{tagLength, formerLength}
-use Rattle.actions.proofs.Laws.{seen-whole, field-at-most}
+use mathlib.Core.List.{List}
+use mathlib.Core.Path.{_≡_}
+use Prim.Native.Nat.{ℕ, _≤_}
+use lib.ListN.{length}
+use Rattle.messages.specs.Message.Reply.{itemReply}
+use Rattle.messages.specs.declared.message.Item.{Item}
+use Rattle.store.specs.Contents.{tagOf, formerTagOf, itemBytes}
+use Rattle.store.specs.declared.contents.ItemBytes.{ItemBytes}
+use Rattle.actions.specs.Act.{says, itemOf}
+use Rattle.actions.specs.View.{identityOf}
+use Rattle.actions.specs.Inner.{Decides}
+use Rattle.actions.specs.declared.Decision.{Decision}
+use Rattle.actions.proofs.Laws.{decides-as, seen-whole, tag-few, former-few}
 use Rattle.actions.proofs.item_read.Statement.{statement}
 use Rattle.actions.proofs.item_read.Tie as tie
+
+module _ (id : ℕ) (serial model : ItemBytes) (m : List ℕ) {d : Decision} {x : Item} where
+  serial-read : Decides d (says (itemReply x (itemBytes serial))) → x ≡ Item.Serial → length (serial .bytes) ≡ 16 → serial .count ≤ 16
+      → Decides d (says (itemReply x (itemOf (identityOf id serial model) m x)))
+  serial-read h e l n = decides-as h (rw (e, seen-whole serial l n))
+
+  model-read : Decides d (says (itemReply x (itemBytes model))) → x ≡ Item.Model → length (model .bytes) ≡ 16 → model .count ≤ 16
+      → Decides d (says (itemReply x (itemOf (identityOf id serial model) m x)))
+  model-read h e l n = decides-as h (rw (e, seen-whole model l n))
+
+  module _ (t : List ℕ) (h : Decides d (says (itemReply x t))) where
+    tag-read : t ≡ tagOf m → x ≡ Item.Tag → Decides d (says (itemReply x (itemOf (identityOf id serial model) m x)))
+    tag-read q e = decides-as h (rw (e, q))
+
+    former-tag-read : t ≡ formerTagOf m → x ≡ Item.FormerTag → Decides d (says (itemReply x (itemOf (identityOf id serial model) m x)))
+    former-tag-read q e = decides-as h (rw (e, q))
 
 enum-told : tie.Need-enum-told
 enum-told c = search needs
 
-text-reply-requires : tie.Need-text-reply-requires
-text-reply-requires c κs = search needs
+item-reply-requires : tie.Need-item-reply-requires
+item-reply-requires c κs = search needs
 
 returns : tie.Need-returns
-returns c =
-    let item = c .before .enum-told .given .1 in
-    rw (item, seen-whole (c .before .before .before .before .args .serial) (search needs) (search needs)) (rw item at (c .text-reply .ensures))
+returns c = search (needs, serial-read)
 
 enum-told-2 : tie.Need-enum-told-2
 enum-told-2 c = search needs
 
-text-reply-requires-2 : tie.Need-text-reply-requires-2
-text-reply-requires-2 c κs = search needs
+item-reply-requires-2 : tie.Need-item-reply-requires-2
+item-reply-requires-2 c κs = search needs
 
 returns-2 : tie.Need-returns-2
-returns-2 c =
-    let item = c .before .enum-told2 .given .1 in
-    rw (item, seen-whole (c .before .before .before .before .args .model) (search needs) (search needs)) (rw item at (c .text-reply2 .ensures))
+returns-2 c = search (needs, model-read)
 
 enum-told-3 : tie.Need-enum-told-3
 enum-told-3 c = search needs
 
 tag-of-requires : tie.Need-tag-of-requires
-tag-of-requires c κs =
-    let ready = c .before .before .before .pre .0 in
-    (ready .size, field-at-most _ tagLength ready refl)
+tag-of-requires c κs = search tag-few
 
-text-reply-requires-3 : tie.Need-text-reply-requires-3
-text-reply-requires-3 c κs = search needs
+item-reply-requires-3 : tie.Need-item-reply-requires-3
+item-reply-requires-3 c κs = search needs
 
 returns-3 : tie.Need-returns-3
-returns-3 c =
-    let item = c .before .before .enum-told3 .given .1 in
-    rw (item, ← c .before .tag-of .ensures .0) (rw item at (c .text-reply3 .ensures))
+returns-3 c = search tag-read
 
 enum-told-4 : tie.Need-enum-told-4
 enum-told-4 c = search needs
 
 former-tag-of-requires : tie.Need-former-tag-of-requires
-former-tag-of-requires c κs =
-    let ready = c .before .before .before .pre .0 in
-    (ready .size, field-at-most _ formerLength ready refl)
+former-tag-of-requires c κs = search former-few
 
-text-reply-requires-4 : tie.Need-text-reply-requires-4
-text-reply-requires-4 c κs = search needs
+item-reply-requires-4 : tie.Need-item-reply-requires-4
+item-reply-requires-4 c κs = search needs
 
 returns-4 : tie.Need-returns-4
-returns-4 c =
-    let item = c .before .before .enum-told4 .given .1 in
-    rw (item, ← c .before .former-tag-of .ensures .0) (rw item at (c .text-reply4 .ensures))
+returns-4 c = search former-tag-read
 
 pub item-read-spec : {M : Type 1} → statement M
 item-read-spec =
     tie.close
     (tie.spec
     enum-told
-    text-reply-requires
+    item-reply-requires
     returns
     enum-told-2
-    text-reply-requires-2
+    item-reply-requires-2
     returns-2
     enum-told-3
     tag-of-requires
-    text-reply-requires-3
+    item-reply-requires-3
     returns-3
     enum-told-4
     former-tag-of-requires
-    text-reply-requires-4
+    item-reply-requires-4
     returns-4)

@@ -1,24 +1,41 @@
--- The erase, an unlisted pair, standby, a value that is not accepted, and one that is, in the order of the definition.
+-- The erase, a pair that is not listed, and a setting, in the order of the definition.
 use borrow.Author.Needs.{needs}
-use mathlib.Core.Path.{_≡_, sym, ap, _∙_}
-use mathlib.Core.Bool.{true, false}
-use mathlib.Core.List.{[]}
-use borrow.Author.Tests.{not-true, not-false}
-use Rattle.store.specs.Settings.{accepts, found}
-use Rattle.store.specs.Contents.{isOn}
-use Rattle.actions.specs.Act.{isErase, setEffect}
-use Rattle.actions.proofs.Laws.{decides-as}
+use mathlib.Core.Bool.{Bool, true, false, cond}
+use mathlib.Core.List.{List, []}
+use mathlib.Core.Path.{_≡_}
+use Prim.Native.Nat.{ℕ}
+use mathlib.Core.Option.{some}
+use lib.Dec.{eqb}
+use Rattle.messages.specs.View.{replyOf}
+use Rattle.messages.specs.declared.message.Parameter.{Parameter}
+use Rattle.messages.specs.declared.message.Reply.{Reply}
+use Rattle.messages.specs.declared.message.Status.{Status}
+use Rattle.messages.specs.Message.Reply.{setReply}
+use Rattle.store.specs.Settings.{settingAt, found}
+use Rattle.store.specs.declared.settings.Row.{Row}
+use Rattle.store.specs.declared.settings.Found.{Found}
+use Rattle.actions.specs.Act.{says, begins, isErase, setListed, setEffect}
+use Rattle.actions.specs.Inner.{Decides}
+use Rattle.actions.specs.declared.Decision.{Decision}
+use Rattle.actions.proofs.Laws.{decides-as, row-listed}
 use Rattle.actions.proofs.set.Statement.{statement}
 use Rattle.actions.proofs.set.Tie as tie
 
-no-erase : (e : tie.Else1) → let a = e .before .before .before .args in isErase (a .page) (a .code) ≡ false
-no-erase e = sym (e .before .is-erase .ensures) ∙ e .if1 .left
+module _ (m : List ℕ) (page code v : ℕ) {d : Decision} {b : Bool} (q : b ≡ isErase page code) where
+  erase : Decides d (cond (eqb v 1) begins (says (setReply 1 page code 1 1 v))) → b ≡ true → Decides d (setEffect m page code v)
+  unfolding setEffect
+  erase h t = decides-as h (rw (← q, t))
 
-is-on : (e : tie.Else2) → isOn (e .before .before .before .before .before .before .before .before .before .before .before .args .store .now) ≡ true
-is-on e = sym (e .before .is-on .ensures) ∙ not-false (e .before .is-on .result) (e .if2 .left)
+  unlisted : {p : Parameter} {f : Found} → Decides d (says (replyOf (Reply.Set Status.Refused p) []))
+      → p ≡ record { page = page; code = code; operation = 0; largest = 0; value = v }
+      → b ≡ false → found f ≡ settingAt page code → f ≡ Found.Unlisted → Decides d (setEffect m page code v)
+  unfolding setEffect
+  unlisted h e t s u = decides-as h (rw (e, ← q, t, ← s, u))
 
-is-accepted : (e : tie.Else3) → accepts (e .before .before .before .before .before .before .before .setting .given .0 .0) (e .before .before .before .before .before .before .before .before .before .before .before .before .before .args .value) ≡ true
-is-accepted e = sym (e .before .accepts .ensures) ∙ not-false (e .before .accepts .result) (e .if3 .left)
+  listed : {r : Row} {f : Found} → Decides d (setListed m page code v (some r)) → b ≡ false → found f ≡ settingAt page code
+      → f ≡ Found.Listed r → Decides d (setEffect m page code v)
+  unfolding setEffect
+  listed h t s u = decides-as h (rw (← q, t, ← s, u))
 
 is-erase-requires : tie.Need-is-erase-requires
 is-erase-requires c κs = search needs
@@ -27,14 +44,13 @@ set-erase-requires : tie.Need-set-erase-requires
 set-erase-requires c κs = search needs
 
 returns : tie.Need-returns
-unfolding setEffect
-returns c = rw (sym (c .before .before .is-erase .ensures) ∙ c .before .if1 .taken) (c .set-erase .ensures)
+returns c = search erase
 
-at-requires : tie.Need-at-requires
-at-requires c κs = search needs
+setting-at-requires : tie.Need-setting-at-requires
+setting-at-requires c κs = search needs
 
-enum-known-setting : tie.Need-enum-known-setting
-enum-known-setting c = search needs
+enum-known-row : tie.Need-enum-known-row
+enum-known-row c = search needs
 
 enum-told : tie.Need-enum-told
 enum-told c = search needs
@@ -46,61 +62,13 @@ unchanged-requires : tie.Need-unchanged-requires
 unchanged-requires c κs = search needs
 
 returns-2 : tie.Need-returns-2
-unfolding setEffect
-returns-2 c =
-    let at = c .before .before .before .before in
-    decides-as (c .unchanged .ensures [])
-    (rw (c .before .parameter .ensures, no-erase (at .before), sym (at .at .ensures) ∙ ap found (c .before .before .enum-told .given .1)))
+returns-2 c = search unlisted
 
-row-requires : tie.Need-row-requires
-row-requires c κs = search needs
-
-parameter-requires-2 : tie.Need-parameter-requires-2
-parameter-requires-2 c κs = search needs
-
-is-on-requires : tie.Need-is-on-requires
-is-on-requires c κs = search needs
-
-unchanged-requires-2 : tie.Need-unchanged-requires-2
-unchanged-requires-2 c κs = search needs
+set-listed-requires : tie.Need-set-listed-requires
+set-listed-requires c κs = search (needs, row-listed)
 
 returns-3 : tie.Need-returns-3
-unfolding setEffect
-returns-3 c =
-    let shown = c .before .before .before in
-    let at = shown .before .before .before .before .before in
-    let on = c .before .before .is-on in
-    decides-as (c .unchanged2 .ensures [])
-    (rw (shown .parameter2 .ensures, shown .before .row .ensures, no-erase (at .before), sym (at .at .ensures) ∙ ap found (shown .before .before .before .setting .given .1), sym (on .ensures) ∙ not-true (on .result) (c .before .if2 .taken)))
-
-accepts-requires : tie.Need-accepts-requires
-accepts-requires c κs = search needs
-
-unchanged-requires-3 : tie.Need-unchanged-requires-3
-unchanged-requires-3 c κs = search needs
-
-returns-4 : tie.Need-returns-4
-unfolding setEffect
-returns-4 c =
-    let shown = c .before .before .before .before .before in
-    let at = shown .before .before .before .before .before in
-    let taken = c .before .before .accepts in
-    decides-as (c .unchanged3 .ensures [])
-    (rw (shown .parameter2 .ensures, shown .before .row .ensures, no-erase (at .before), sym (at .at .ensures) ∙ ap found (shown .before .before .before .setting .given .1), is-on (c .before .before .before), sym (taken .ensures) ∙ not-true (taken .result) (c .before .if3 .taken)))
-
-stores-requires : tie.Need-stores-requires
-stores-requires c κs = (c .before .before .before .before .before .before .before .before .before .before .before .before .before .pre .size, is-accepted c)
-
-changed-requires : tie.Need-changed-requires
-changed-requires c κs = search needs
-
-returns-5 : tie.Need-returns-5
-unfolding setEffect
-returns-5 c =
-    let shown = c .before .before .before .before .before .before in
-    let at = shown .before .before .before .before .before in
-    decides-as (c .changed .ensures [])
-    (rw (shown .parameter2 .ensures, shown .before .row .ensures, c .before .stores .ensures, no-erase (at .before), sym (at .at .ensures) ∙ ap found (shown .before .before .before .setting .given .1), is-on (c .before .before .before .before), is-accepted (c .before .before)))
+returns-3 c = search listed
 
 pub set-spec : {M : Type 1} → statement M
 set-spec =
@@ -109,20 +77,11 @@ set-spec =
     is-erase-requires
     set-erase-requires
     returns
-    at-requires
-    enum-known-setting
+    setting-at-requires
+    enum-known-row
     enum-told
     parameter-requires
     unchanged-requires
     returns-2
-    row-requires
-    parameter-requires-2
-    is-on-requires
-    unchanged-requires-2
-    returns-3
-    accepts-requires
-    unchanged-requires-3
-    returns-4
-    stores-requires
-    changed-requires
-    returns-5)
+    set-listed-requires
+    returns-3)

@@ -1,41 +1,60 @@
--- The count, or 16 where it is past the array, takes the same bytes of the array.
+-- A count past the array takes the same bytes of it as 16 does.
 use borrow.Author.Needs.{needs}
-use mathlib.Core.Path.{_≡_, sym}
-use mathlib.Core.Logic.{⊎-elim}
-use Prim.Native.Nat.{_≤_}
+use mathlib.Core.List.{List}
+use mathlib.Core.Path.{_≡_}
+use Prim.Native.Nat.{ℕ, _-_, min}
+use native.Mathlib.Nat.{sub-zero}
 use native.Mathlib.Omega.{arith}
-use lib.ListN.{length, take, length-take}
-use lib.Seq.{length-take-le}
-use Rattle.actions.proofs.Laws.{past-same}
+use lib.ListN.{length, take, drop}
+use Rattle.plan.specs.Plans.{storesOf}
+use Rattle.plan.specs.declared.Plan.{Plan}
+use Rattle.messages.specs.Message.Reply.{tagWriteReply}
+use Rattle.messages.specs.declared.message.Reply.{Reply}
+use Rattle.messages.specs.declared.message.Status.{Status}
+use Rattle.store.specs.Contents.{tagStores}
+use Rattle.actions.specs.Act.{replies}
+use Rattle.actions.specs.Inner.{Decides}
+use Rattle.actions.specs.declared.Effect.{Effect}
+use Rattle.actions.proofs.Laws.{take-min}
 use Rattle.actions.proofs.tag_write.Statement.{statement}
 use Rattle.actions.proofs.tag_write.Tie as tie
 
-held-few : (j : tie.Joined1) → j .if1 .held ≤ 16
-held-few j = ⊎-elim (λ w. omega arith) (λ w. omega arith) (j .if1 .came)
+tag-written : (m bytes : List ℕ) (count : ℕ) {n : ℕ} {p : Plan} → length bytes ≡ 16 → n ≡ min count 16
+    → storesOf p ≡ tagStores m (take (n - 0) (drop 0 bytes))
+    → Decides (record { effect = Effect.Replies (Reply.TagWritten Status.Acknowledged n); plan = p; bytes = bytes })
+    (replies (tagWriteReply 0 (take count bytes)) (tagStores m (take count bytes)))
+tag-written m bytes count {n} l e q =
+    record { effect = rw (q, sub-zero n, e, take-min count bytes l); sendable = omega arith }
 
-held-same : (j : tie.Joined1) → let a = j .before .before .args in take (j .if1 .held) (a .t1) ≡ take (a .count) (a .t1)
-held-same j =
-    let a = j .before .before .args in
-    let l : length (a .t1) ≡ 16 = search needs in
-    ⊎-elim (λ w. rw (w .1)) (λ w. past-same (j .if1 .held) (a .count) (a .t1) (omega arith) (omega arith)) (j .if1 .came)
+at-most-16-requires : tie.Need-at-most-16-requires
+at-most-16-requires c κs = search needs
 
-array-share-prefix-bytes : tie.Need-array-share-prefix-bytes
-array-share-prefix-bytes c = let h = held-few (c .before) in omega arith
+cast-n : tie.Need-cast-n
+cast-n c = search needs
 
-slice-aggregate-tag-stores : tie.Need-slice-aggregate-tag-stores
-slice-aggregate-tag-stores c = let h = held-few (c .before .before) in sym (length-take-le _ _ (omega arith))
+sub-tag-stores : tie.Need-sub-tag-stores
+sub-tag-stores c = search needs
+
+part-tag-stores-start : tie.Need-part-tag-stores-start
+part-tag-stores-start c = search needs
+
+part-tag-stores-end : tie.Need-part-tag-stores-end
+part-tag-stores-end c = search needs
 
 tag-stores-requires : tie.Need-tag-stores-requires
-tag-stores-requires c κs =
-    let h = held-few (c .before .before) in
-    (c .before .before .before .before .pre .size, simp length-take (omega arith))
+tag-stores-requires c κs = search needs
 
 returns : tie.Need-returns
-returns c =
-    let joined = c .before .before .before in
-    record { effect = rw (c .tag-stores .ensures, held-same joined); sendable = held-few joined }
+returns c = search tag-written
 
 pub tag-write-spec : {M : Type 1} → statement M
 tag-write-spec =
     tie.close
-    (tie.spec array-share-prefix-bytes slice-aggregate-tag-stores tag-stores-requires returns)
+    (tie.spec
+    at-most-16-requires
+    cast-n
+    sub-tag-stores
+    part-tag-stores-start
+    part-tag-stores-end
+    tag-stores-requires
+    returns)

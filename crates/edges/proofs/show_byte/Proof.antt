@@ -1,5 +1,4 @@
 -- The lines stand within the buffer.
-use mathlib.Core.Path.{sym}
 use borrow.Author.Needs.{needs}
 use lib.Seq.{length-take-le}
 use Rattle.transcript.proofs.FeedLaws.{lines-fit}
@@ -10,10 +9,10 @@ feed-requires : tie.Need-feed-requires
 feed-requires c κs = search needs
 
 slice-reshare-prefix-write-all : tie.Need-slice-reshare-prefix-write-all
-slice-reshare-prefix-write-all c = lines-fit (c .before .before .before .before .before .before .feed .ensures)
+slice-reshare-prefix-write-all c = search lines-fit
 
 slice-aggregate-write-all : tie.Need-slice-aggregate-write-all
-slice-aggregate-write-all c = sym (length-take-le _ _ (slice-reshare-prefix-write-all (c .before)))
+slice-aggregate-write-all c = search (needs, length-take-le, lines-fit)
 
 write-all-requires : tie.Need-write-all-requires
 write-all-requires c κs = search needs

@@ -7,7 +7,8 @@ use Rattle.edges.proofs.show_lines.Statement.{statement}
 use Rattle.edges.proofs.show_lines.Tie as tie
 
 abbrev Inv-loop : tie.InvT-loop
-Inv-loop store₀ bytes reply₀ out₀ board₀ i₀ store reply out board i = (length store ≡ length store₀) × (length reply ≡ length reply₀) × (length out ≡ length out₀)
+Inv-loop store₀ bytes reply₀ out₀ board₀ i₀ store reply out board i = (length store ≡ length store₀) × (length reply ≡ length reply₀)
+    × (length out ≡ length out₀)
 
 abbrev μ-loop : tie.MeasureT-loop
 μ-loop store₀ bytes reply₀ out₀ board₀ i₀ store reply out board i = length bytes - i

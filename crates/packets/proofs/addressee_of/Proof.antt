@@ -10,15 +10,15 @@ add-if1 c = search needs
 
 returns : tie.Need-returns
 unfolding addressee
-returns c serial model = search tests
+returns c = search tests
 
 returns-2 : tie.Need-returns-2
 unfolding addressee
-returns-2 c serial model = search tests
+returns-2 c = search tests
 
 returns-3 : tie.Need-returns-3
 unfolding addressee
-returns-3 c serial model = search tests
+returns-3 c = search tests
 
 pub addressee-of-spec : {M : Type 1} → statement M
 addressee-of-spec = tie.close (tie.spec add-if1 returns returns-2 returns-3)

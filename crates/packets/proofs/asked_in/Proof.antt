@@ -1,12 +1,22 @@
 -- The bytes from index 8 to ETX are as many as the size says.
 use borrow.Author.Needs.{needs}
-use Prim.Native.Nat.{_-_}
+use mathlib.Core.List.{List}
+use mathlib.Core.Option.{Option}
 use mathlib.Core.Path.{_≡_, _∙_}
+use Prim.Native.Nat.{ℕ, _-_}
 use native.Mathlib.Omega.{arith}
-use lib.ListN.{length}
-use Rattle.wire.specs.Packet.{size, textOf}
+use lib.ListN.{length, getD, take, drop}
+use Rattle.wire.specs.Packet.{size, packetText}
+use Rattle.wire.specs.Inner.{Whole}
+use Rattle.messages.specs.Message.{Request}
+use Rattle.messages.specs.Read.{requestIn}
 use Rattle.packets.proofs.asked_in.Statement.{statement}
 use Rattle.packets.proofs.asked_in.Tie as tie
+
+text-behind : (p : List ℕ) {q : Option Request} → q ≡ requestIn (getD p 4 0) (take (length p - 3 - 8) (drop 8 p)) → Whole p
+    → q ≡ requestIn (getD p 4 0) (packetText p)
+unfolding packetText
+text-behind p e w = let n : length p - 3 - 8 ≡ size p - 11 = omega (arith, w .sized) in e ∙ rw n
 
 sub-end : tie.Need-sub-end
 sub-end c = search needs
@@ -27,11 +37,8 @@ parse-request-requires : tie.Need-parse-request-requires
 parse-request-requires c κs = search needs
 
 returns : tie.Need-returns
-unfolding textOf
-returns c =
-    let p = c .before .before .before .before .args .packet .now in
-    let e : length p - 3 - 8 ≡ size p - 11 = omega arith in
-    c .parse-request .ensures ∙ rw e
+unfolding packetText
+returns c = search text-behind
 
 pub asked-in-spec : {M : Type 1} → statement M
 asked-in-spec =

@@ -1,11 +1,6 @@
 -- As for this board alone, with nothing sent.
-use Prim.Native.Nat.{ℕ}
-use mathlib.Core.Path.{sym, _∙_}
-use lib.ListN.{length-map}
 use borrow.Author.Needs.{needs}
-use Rattle.actions.specs.View.{identityOf}
-use Rattle.parser.specs.View.{parsed}
-use Rattle.packets.proofs.DecisionLaws.{asked-few, decided-ready, all-begun, all-silent}
+use Rattle.packets.proofs.DecisionLaws.{plan-ready, all-begun, all-silent}
 use Rattle.packets.proofs.for_all.Statement.{statement}
 use Rattle.packets.proofs.for_all.Tie as tie
 
@@ -25,30 +20,16 @@ same-length : tie.Need-same-length
 same-length c = search needs
 
 returns : tie.Need-returns
-returns c lent =
-    let d = c .before .before .before .before .before .before in
-    let a = d .before .before .before .args in
-    all-begun (identityOf (a .id) (a .serial) (a .model)) (a .store .now) (parsed (a .asked)) (d .decide .result) (d .decide .ensures) _ lent
-    (c .before .before .before .before .enum-told2 .given .1) (c .before .before .begin .ensures)
+returns c = search all-begun
 
 commit-requires : tie.Need-commit-requires
-commit-requires c κs =
-    let d = c .before .before .before .before in
-    let start = d .before .before .before in
-    let a = start .args in
-    decided-ready (identityOf (a .id) (a .serial) (a .model)) (a .store .now) (parsed (a .asked)) (d .decide .result) (d .decide .ensures)
-    (start .pre .ready) (asked-few (a .asked) (sym (length-map (a .asked .bytes) (λ (x : ℕ). x)) ∙ start .good .1 .1 .1 .0 .1 .1 .1 .0 .1 .0 .1)) _
-    (c .before .before .enum-told .given .1)
+commit-requires c κs = search (needs, plan-ready)
 
 same-length-2 : tie.Need-same-length-2
 same-length-2 c = search needs
 
 returns-2 : tie.Need-returns-2
-returns-2 c lent =
-    let d = c .before .before .before .before .before .before .before in
-    let a = d .before .before .before .args in
-    all-silent (identityOf (a .id) (a .serial) (a .model)) (a .store .now) (parsed (a .asked)) (d .decide .result) (d .decide .ensures) _ _
-    (c .before .before .before .before .before .enum-told .given .1) (c .before .before .commit .ensures) lent
+returns-2 c = search all-silent
 
 pub for-all-spec : {M : Type 1} → statement M
 for-all-spec =

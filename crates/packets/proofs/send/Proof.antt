@@ -6,7 +6,8 @@ use Prim.Native.Nat.{ℕ}
 use lib.ListN.{length, take}
 use Rattle.wire.specs.Packet.{over, packet, zeroByte, addressOf}
 use Rattle.messages.specs.Text.{replyType, replyText}
-use Rattle.messages.specs.View.{replyOf, Writes}
+use Rattle.messages.specs.View.{replyOf}
+use Rattle.messages.specs.Inner.{Writes}
 use Rattle.messages.proofs.SendLaws.{text-first, text-fits, text-there, text-counted}
 use Rattle.messages.specs.declared.message.Reply.{Reply}
 use Rattle.messages.specs.declared.write.Written.{Written}

@@ -2,7 +2,7 @@
 use borrow.Author.Needs.{needs}
 use native.Mathlib.Omega.{arith}
 use lib.ListN.{length-set}
-use Rattle.play.proofs.Laws.{two-over}
+use Rattle.play.proofs.Laws.{answer-enters, start-enters, refusal-enters}
 use Rattle.play.proofs.enter.Statement.{statement}
 use Rattle.play.proofs.enter.Tie as tie
 
@@ -25,9 +25,7 @@ same-length : tie.Need-same-length
 same-length c = search needs
 
 returns : tie.Need-returns
-returns c =
-    let s = c .before .before .before .before .before .before .before .seen .given .1 in
-    (rw s, λ lent. rw (s, ← c .before .before .before .before .before .kind .ensures, ← c .before .before .before .before .number-in .ensures) (c .before .before .put-entry .ensures))
+returns c = search answer-enters
 
 enum-told : tie.Need-enum-told
 enum-told c = search needs
@@ -39,9 +37,7 @@ same-length-2 : tie.Need-same-length-2
 same-length-2 c = search needs
 
 returns-2 : tie.Need-returns-2
-returns-2 c =
-    let s = c .before .before .before .before .enum-told .given .1 in
-    (rw s, λ lent. rw s (c .before .before .put-entry2 .ensures))
+returns-2 c = search start-enters
 
 enum-known-seen-2 : tie.Need-enum-known-seen-2
 enum-known-seen-2 c = search needs
@@ -56,15 +52,13 @@ cast-log : tie.Need-cast-log
 cast-log c = search needs
 
 slice-write-log-2 : tie.Need-slice-write-log-2
-slice-write-log-2 c = simp length-set (omega (arith, c .before .before .before .before .before .before .pre))
+slice-write-log-2 c = simp length-set (omega arith)
 
 same-length-3 : tie.Need-same-length-3
 same-length-3 c = search needs
 
 returns-3 : tie.Need-returns-3
-returns-3 c =
-    let s = c .before .before .seen2 .given .1 in
-    (rw s, λ lent. rw (s, ← c .number .ensures) (two-over 8 (c .number .result) _ (omega (arith, c .before .before .before .before .before .before .pre))))
+returns-3 c = search refusal-enters
 
 pub enter-spec : {M : Type 1} → statement M
 enter-spec =

@@ -1,6 +1,6 @@
 -- The matched case of the answer says which number it holds.
 use borrow.Author.Needs.{needs}
-use Rattle.play.proofs.Laws.{no-number}
+use Rattle.play.proofs.Laws.{refusal-number, no-number}
 use Rattle.play.proofs.number_in.Statement.{statement}
 use Rattle.play.proofs.number_in.Tie as tie
 
@@ -14,7 +14,7 @@ cast-result : tie.Need-cast-result
 cast-result c = search needs
 
 returns : tie.Need-returns
-returns c = rw (c .before .before .answer .given .1) (c .number .ensures)
+returns c = search refusal-number
 
 enum-known-answer-2 : tie.Need-enum-known-answer-2
 enum-known-answer-2 c = search needs
@@ -23,7 +23,7 @@ returns-2 : tie.Need-returns-2
 returns-2 c = search needs
 
 returns-3 : tie.Need-returns-3
-returns-3 c = no-number (c .before .before .args .answer) (c .before .match .keys2) (c .match2 .keys2)
+returns-3 c = search no-number
 
 pub number-in-spec : {M : Type 1} → statement M
 number-in-spec =

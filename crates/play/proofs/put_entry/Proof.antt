@@ -2,9 +2,10 @@
 use Prim.Native.Nat.{ℕ, _+_, _-_, _≤_, _<_}
 use mathlib.Core.List.{List, [], _∷_}
 use mathlib.Core.Path.{_≡_, refl, sym, _∙_}
+use mir.Facts.{fits-8-64}
 use native.Mathlib.Omega.{arith}
 use native.Mathlib.Numerals.{add-one}
-use lib.ListN.{length, take, length-set}
+use lib.ListN.{length, getD, set, take, length-set}
 use lib.Seq.{take-suc, take-all, length-take-le}
 use Rattle.wire.specs.Packet.{over}
 use Rattle.wire.proofs.PacketLaws.{over-set}
@@ -16,30 +17,60 @@ use Rattle.play.proofs.put_entry.Tie as tie
 abbrev written : ℕ → ℕ → List ℕ → ℕ → List ℕ
 written kind number store i = kind ∷ number ∷ take i store
 
+record Writes (kind number : ℕ) (store log₀ log : List ℕ) (i : ℕ) : Type 0 where
+  within : i ≤ length store
+  room : length store + 2 ≤ length log₀
+  kept : length log ≡ length log₀
+  front : log ≡ over (written kind number store i) log₀
+
+module _ (kind number : ℕ) (store log : List ℕ) where
+  two-written : length store + 2 ≤ length log → Writes kind number store (set (set log 0 kind) 1 number) (set (set log 0 kind) 1 number) 0
+  two-written h =
+      record {
+        within = omega arith;
+        room = simp length-set h;
+        kept = refl;
+        front = two-over kind number log (omega arith) ∙ sym (over-two kind number [] log);
+      }
+
+  one-more : (log′ : List ℕ) (i : ℕ) → Writes kind number store log log′ i → i < length store
+      → Writes kind number store log (set log′ (i + 2) (getD store i 0)) (i + 1)
+  one-more log′ i w h =
+      let sized : length (written kind number store i) ≡ i + 2 = rw (length-take-le i store (w .within)) (omega arith) in
+      record {
+        within = omega arith;
+        room = w .room;
+        kept = rw (length-set log′) (w .kept);
+        front = rw (w .front, add-one, take-suc store i 0 h) (over-set _ _ (i + 2) sized _ (omega arith));
+      }
+
+  all-written : (log′ : List ℕ) (i : ℕ) → Writes kind number store (set (set log 0 kind) 1 number) log′ i → length store ≤ i
+      → log′ ≡ over (kind ∷ number ∷ store) log
+  all-written log′ i w h = w .front ∙ rw (take-all i store h) (over-two kind number store log)
+
+log-kept : (kind number i : ℕ) (store log log′ : List ℕ) → Writes kind number store (set (set log 0 kind) 1 number) log′ i → length log′ ≡ length log
+log-kept kind number i store log log′ w = w .kept ∙ simp length-set
+
 abbrev Inv-loop : tie.InvT-loop
-Inv-loop kind number store log₀ i₀ log i =
-    (i ≤ length store) × (length store + 2 ≤ length log₀) × (length log ≡ length log₀) × (log ≡ over (written kind number store i) log₀)
+Inv-loop kind number store log₀ i₀ log i = Writes kind number store log₀ log i
 
 abbrev μ-loop : tie.MeasureT-loop
 μ-loop kind number store log₀ i₀ log i = length store - i
 
 slice-write-log : tie.Need-slice-write-log Inv-loop μ-loop
-slice-write-log c = omega (arith, c .pre)
+slice-write-log c = omega arith
 
 slice-write-log-2 : tie.Need-slice-write-log-2 Inv-loop μ-loop
-slice-write-log-2 c = simp length-set (omega (arith, c .pre))
+slice-write-log-2 c = simp length-set (omega arith)
 
 loop-holds : tie.Need-loop-holds Inv-loop μ-loop
-loop-holds c =
-    let a = c .args in
-    let h : 2 ≤ length (a .log .now) = omega (arith, c .pre) in
-    (omega arith, simp length-set (c .pre), refl, two-over (a .kind) (a .number) (a .log .now) h ∙ sym (over-two (a .kind) (a .number) [] (a .log .now)))
+loop-holds c = search two-written
 
 shared-slice-read-log : tie.Need-shared-slice-read-log Inv-loop μ-loop
 shared-slice-read-log c = omega arith
 
 cast-log : tie.Need-cast-log Inv-loop μ-loop
-cast-log c = omega (arith, c .shared-slice-known .given (c .before .before .loop .i))
+cast-log c = search (fits-8-64, c .shared-slice-known .given)
 
 add-log : tie.Need-add-log Inv-loop μ-loop
 add-log c = omega arith
@@ -57,25 +88,13 @@ loop-less : tie.Need-loop-less Inv-loop μ-loop
 loop-less c = omega arith
 
 loop-again : tie.Need-loop-again Inv-loop μ-loop
-loop-again c =
-    let a = c .before .before .before .args in
-    let l = c .before .before .loop in
-    let h : l .i < length (a .store .now) = c .before .loop-test .taken in
-    let sized : length (written (a .kind) (a .number) (a .store .now) (l .i)) ≡ l .i + 2 = rw (length-take-le (l .i) (a .store .now) (omega arith)) (omega arith) in (
-      omega arith,
-      l .inv .1,
-      rw (length-set (l .log)) (l .inv .2),
-      rw (l .inv .3, add-one, take-suc (a .store .now) (l .i) 0 h) (over-set _ _ (l .i + 2) sized _ (omega (arith, l .inv .1))),
-    )
+loop-again c = search one-more
 
 same-length : tie.Need-same-length Inv-loop μ-loop
-same-length c = c .before .loop .inv .2 ∙ simp length-set
+same-length c = search log-kept
 
 returns : tie.Need-returns Inv-loop μ-loop
-returns c =
-    let a = c .before .before .args in
-    let l = c .before .loop in
-    l .inv .3 ∙ rw (take-all (l .i) (a .store .now) (c .loop-test .left)) (over-two (a .kind) (a .number) (a .store .now) (a .log .now))
+returns c = search all-written
 
 pub put-entry-spec : {M : Type 1} → statement M
 put-entry-spec =

@@ -1,6 +1,6 @@
 -- A start that gives a board is seen as started, and a refused one by its number.
 use borrow.Author.Needs.{needs}
-use Rattle.play.proofs.Laws.{ready-shown, refused-shown}
+use Rattle.play.proofs.Laws.{started-again, refused-again}
 use Rattle.play.proofs.start_again.Statement.{statement}
 use Rattle.play.proofs.start_again.Tie as tie
 
@@ -14,20 +14,16 @@ same-length : tie.Need-same-length
 same-length c = search needs
 
 returns : tie.Need-returns
-returns c =
-    let r = c .before .before .before .before .before .start in
-    (λ s lent es. ready-shown _ (r .result) _ _ (r .ensures .0) (r .ensures .2) s es (c .enum-told .given .1), r .ensures .2)
+returns c = search started-again
 
-enum-known-verdict : tie.Need-enum-known-verdict
-enum-known-verdict c = search needs
+enum-known-answer : tie.Need-enum-known-answer
+enum-known-answer c = search needs
 
 same-length-2 : tie.Need-same-length-2
 same-length-2 c = search needs
 
 returns-2 : tie.Need-returns-2
-returns-2 c =
-    let r = c .before .before .before .before .before .before .start in
-    (λ s lent es. refused-shown _ (r .result) _ _ (r .ensures .0) (r .ensures .2) s es _ (c .before .verdict .given .1), r .ensures .2)
+returns-2 c = search refused-again
 
 pub start-again-spec : {M : Type 1} → statement M
 start-again-spec =
@@ -37,6 +33,6 @@ start-again-spec =
     enum-told
     same-length
     returns
-    enum-known-verdict
+    enum-known-answer
     same-length-2
     returns-2)

@@ -1,10 +1,6 @@
 -- The tests tell which event a number is, and the call of each shows what its contract says.
 use borrow.Author.Needs.{needs}
-use Rattle.erase.specs.Calls.{onCall}
-use Rattle.erase.specs.Lists.{run}
-use Rattle.board.specs.Calls.{byte, thisBoard}
-use Rattle.board.specs.View.{stateOf}
-use Rattle.play.proofs.Laws.{shown, gap-lent, byte-event, gap-event, step-event, cut-event}
+use Rattle.play.proofs.Laws.{byte-turns, gap-turns, step-turns, cut-turns}
 use Rattle.play.proofs.turn_of.Statement.{statement}
 use Rattle.play.proofs.turn_of.Tie as tie
 
@@ -24,12 +20,7 @@ same-length-2 : tie.Need-same-length-2
 same-length-2 c = search needs
 
 returns : tie.Need-returns
-unfolding run
-returns c =
-    let a = c .before .before .before .before .before .before .before .before .before .before .before .before .before .args in
-    let r = c .before .before .before .before .before .byte in
-    let o = onCall thisBoard (byte (a .event)) (stateOf (a .board)) (a .store .now) (a .lent .now) in
-    rw (byte-event (a .event) (a .lent .now) (c .before .before .before .before .before .before .before .before .if1 .taken)) (shown _ _ (r .result) _ _ _ o (c .answered .ensures) (r .ensures))
+returns c = search byte-turns
 
 gap-requires : tie.Need-gap-requires
 gap-requires c κs = search needs
@@ -41,11 +32,7 @@ same-length-3 : tie.Need-same-length-3
 same-length-3 c = search needs
 
 returns-2 : tie.Need-returns-2
-unfolding run
-returns-2 c =
-    let a = c .before .before .before .before .before .before .before .before .before .args in
-    let r = c .before .gap in
-    rw (gap-event (a .event) (a .lent .now) (c .before .before .before .if2 .taken)) (shown _ _ (r .result) _ _ _ _ (c .answered2 .ensures) (gap-lent _ _ (a .lent .now) (r .result) _ (r .ensures)))
+returns-2 c = search gap-turns
 
 step-requires : tie.Need-step-requires
 step-requires c κs = search needs
@@ -60,11 +47,7 @@ same-length-5 : tie.Need-same-length-5
 same-length-5 c = search needs
 
 returns-3 : tie.Need-returns-3
-unfolding run
-returns-3 c =
-    let a = c .before .before .before .before .before .before .before .before .before .before .before .before .before .before .before .args in
-    let r = c .before .before .before .before .before .step in
-    rw (step-event (a .event) (a .lent .now) (c .before .before .before .before .before .before .before .before .if3 .taken)) (shown _ _ (r .result) _ _ _ _ (c .answered3 .ensures) (r .ensures))
+returns-3 c = search step-turns
 
 start-again-requires : tie.Need-start-again-requires
 start-again-requires c κs = search needs
@@ -73,11 +56,7 @@ same-length-6 : tie.Need-same-length-6
 same-length-6 c = search needs
 
 returns-4 : tie.Need-returns-4
-unfolding run
-returns-4 c =
-    let a = c .before .before .before .before .before .before .before .before .before .before .before .args in
-    let r = c .before .before .start-again in
-    (λ es. rw (cut-event (a .event) (a .lent .now) (c .before .before .before .before .before .before .if1 .left) (c .before .before .before .before .before .if2 .left) (c .before .before .before .before .if3 .left)) (r .ensures .0 (stateOf (a .board)) _ es), λ e. r .ensures .1)
+returns-4 c = search cut-turns
 
 pub turn-of-spec : {M : Type 1} → statement M
 turn-of-spec =

@@ -1,27 +1,34 @@
 -- The counts so far and those of what is left are the counts of all, and what is held stays a proper beginning.
 use mathlib.Core.Bool.{true}
-use mathlib.Core.List.{List}
+use mathlib.Core.List.{List, []}
 use mathlib.Core.Path.{_≡_, refl}
-use Prim.Native.Nat.{ℕ, _-_, _+_, _<_}
+use Prim.Native.Nat.{ℕ, _+_, _-_, _<_}
 use native.Mathlib.Omega.{arith}
 use lib.ListN.{length, take, getD}
 use Rattle.receiver.specs.Receive.{accept, isProperBeginning}
 use Rattle.receiver.proofs.Laws.{accept-proper, byte-accepted}
-use Rattle.recording.specs.Recording.{isWhole, isRefusal}
-use Rattle.recording.proofs.Laws.{Played, nothing-played, played-on, played-through}
+use Rattle.recording.specs.Inner.{Counts}
+use Rattle.recording.proofs.Laws.{Played, nothing-played, played-on, wholes-counted, refusals-counted}
 use Rattle.recording.proofs.recording_count.Statement.{statement}
 use Rattle.recording.proofs.recording_count.Tie as tie
 
-abbrev Held : List ℕ → List ℕ → ℕ → ℕ → ℕ → Type 0
-Held s held packets refused i = (isProperBeginning held ≡ true) × Played s held packets refused i
+-- what is held is a proper beginning, and the counts so far and those of what is left are the counts of all
+record Held (s held : List ℕ) (packets refused i : ℕ) : Type 0 where
+  proper : isProperBeginning held ≡ true
+  played : Played s held packets refused i
 
-fed-on : {s held : List ℕ} {packets refused i : ℕ} → Held s held packets refused i → i < length s
-    → {h : List ℕ} {p r : ℕ} → h ≡ accept held (getD s i 0) .held
-    → (p ≡ packets + isWhole (accept held (getD s i 0) .answer)) × (r ≡ refused + isRefusal (accept held (getD s i 0) .answer))
-    → Held s h p r (i + 1)
-fed-on {s} {held} {packets} {refused} {i} inv n e f =
-    let accepted = byte-accepted held (getD s i 0) (inv .0) in
-    (rw e (accept-proper held (getD s i 0) (inv .0)), played-on (inv .1) n (rw accepted e) (rw accepted f))
+nothing-held : (s : List ℕ) → Held s [] 0 0 0
+unfolding isProperBeginning
+nothing-held s = record { proper = refl; played = nothing-played s }
+
+module _ (s held : List ℕ) (packets refused i : ℕ) (h : Held s held packets refused i) where
+  tallied-on : i < length s → (g : List ℕ) (p r : ℕ) → Counts (accept held (getD s i 0)) packets refused g p r → Held s g p r (i + 1)
+  tallied-on n g p r c =
+      let accepted = byte-accepted held (getD s i 0) (h .proper) in
+      record {
+        proper = rw (c .holds) (accept-proper held (getD s i 0) (h .proper));
+        played = played-on s held packets refused i (h .played) n g p r (rw accepted c);
+      }
 
 abbrev Inv-loop : tie.InvT-loop
 Inv-loop recording refused held₀ tally₀ i₀ held tally i = Held recording (take (tally .len) held) (tally .packets) (tally .refusals) i
@@ -30,14 +37,13 @@ abbrev μ-loop : tie.MeasureT-loop
 μ-loop recording refused held₀ tally₀ i₀ held tally i = length recording - i
 
 loop-holds : tie.Need-loop-holds Inv-loop μ-loop
-unfolding isProperBeginning
-loop-holds c = (refl, nothing-played _)
+loop-holds c = search nothing-held
 
-shared-slice-read-fed : tie.Need-shared-slice-read-fed Inv-loop μ-loop
-shared-slice-read-fed c = omega arith
+shared-slice-read-tallied : tie.Need-shared-slice-read-tallied Inv-loop μ-loop
+shared-slice-read-tallied c = omega arith
 
-fed-requires : tie.Need-fed-requires Inv-loop μ-loop
-fed-requires c κs = (c .before .before .before .loop .inv .0, (omega arith, omega arith))
+tallied-requires : tie.Need-tallied-requires Inv-loop μ-loop
+tallied-requires c κs = (search, (omega arith, omega arith))
 
 add-i : tie.Need-add-i Inv-loop μ-loop
 add-i c = omega arith
@@ -46,10 +52,10 @@ loop-less : tie.Need-loop-less Inv-loop μ-loop
 loop-less c = omega arith
 
 loop-again : tie.Need-loop-again Inv-loop μ-loop
-loop-again c = fed-on (c .before .before .before .before .loop .inv) (c .before .before .before .loop-test .taken) (c .fed .ensures .0) (c .fed .ensures .1)
+loop-again c = search tallied-on
 
 returns : tie.Need-returns Inv-loop μ-loop
-returns c = played-through (c .before .loop .inv .1) (c .loop-test .left)
+returns c = search (wholes-counted, refusals-counted)
 
 pub recording-count-spec : {M : Type 1} → statement M
 recording-count-spec =
@@ -58,8 +64,8 @@ recording-count-spec =
     Inv-loop
     μ-loop
     loop-holds
-    shared-slice-read-fed
-    fed-requires
+    shared-slice-read-tallied
+    tallied-requires
     add-i
     loop-less
     loop-again

@@ -1,26 +1,58 @@
--- After i turns the first i bytes are the same, so that the rest decides.
-use Prim.Native.Nat.{_-_, _≤_}
+-- After i turns the first i bytes are the same, so that the rest decides; a law for each way out of a turn.
+use mathlib.Core.Bool.{true, false}
+use mathlib.Core.List.{List}
 use mathlib.Core.Path.{_≡_, refl, sym, _∙_}
+use Prim.Native.Nat.{ℕ, _+_, _-_, _≤_, _<_}
 use native.Mathlib.Omega.{arith}
 use borrow.Author.Tests.{eq-eqb, ne-eqb}
-use lib.ListN.{length, drop, drop-of-length-le}
+use lib.ListN.{length, getD, drop, drop-of-length-le}
 use Rattle.messages.specs.Read.{beginsWith}
 use Rattle.text_fields.proofs.TextLaws.{begins-short, begins-step}
 use Rattle.text_fields.proofs.begins_with.Statement.{statement}
 use Rattle.text_fields.proofs.begins_with.Tie as tie
 
+-- the first i bytes of a text are those of a name
+record Passed (name text : List ℕ) (i : ℕ) : Type 0 where
+  within : i ≤ length name
+  room : length name ≤ length text
+  rest : beginsWith name text ≡ beginsWith (drop i name) (drop i text)
+
+module _ (name text : List ℕ) where
+  too-short : length text < length name → false ≡ beginsWith name text
+  too-short h = sym (begins-short name text h)
+
+  none-passed : length name ≤ length text → Passed name text 0
+  none-passed h = record { within = omega arith; room = h; rest = refl }
+
+  module _ (i : ℕ) (p : Passed name text i) where
+    module _ (more : i < length name) where
+      other-byte : (getD name i 0 ≡ getD text i 0 → ⊥) → false ≡ beginsWith name text
+      other-byte e =
+          let r = p .room in
+          rw (p .rest, begins-step name text i more (omega arith), ne-eqb _ _ e)
+
+      same-byte : getD name i 0 ≡ getD text i 0 → Passed name text (i + 1)
+      same-byte e = record {
+        within = omega arith;
+        room = p .room;
+        rest = p .rest ∙ rw (begins-step name text i more (omega arith), eq-eqb _ _ e);
+      }
+
+    all-passed : length name ≤ i → true ≡ beginsWith name text
+    unfolding beginsWith
+    all-passed h = rw (p .rest, drop-of-length-le name h)
+
 abbrev Inv-loop : tie.InvT-loop
-Inv-loop name text n i₀ i =
-    (i ≤ n) × (n ≡ length name) × (n ≤ length text) × (beginsWith name text ≡ beginsWith (drop i name) (drop i text))
+Inv-loop name text n i₀ i = (n ≡ length name) × Passed name text i
 
 abbrev μ-loop : tie.MeasureT-loop
 μ-loop name text n i₀ i = n - i
 
 returns : tie.Need-returns Inv-loop μ-loop
-returns c = sym (begins-short (c .before .args .name .now) (c .before .args .text .now) (c .if1 .taken))
+returns c = search too-short
 
 loop-holds : tie.Need-loop-holds Inv-loop μ-loop
-loop-holds c = (omega arith, refl, c .if1 .left, refl)
+loop-holds c = search none-passed
 
 shared-slice-read-if2 : tie.Need-shared-slice-read-if2 Inv-loop μ-loop
 shared-slice-read-if2 c = omega arith
@@ -29,11 +61,7 @@ shared-slice-read-if2-2 : tie.Need-shared-slice-read-if2-2 Inv-loop μ-loop
 shared-slice-read-if2-2 c = omega arith
 
 returns-2 : tie.Need-returns-2 Inv-loop μ-loop
-returns-2 c =
-    let a = c .before .before .before .before .before .before .args in
-    let turn = c .before .before .before .before .loop in
-    rw
-    (turn .inv .3, begins-step (a .name .now) (a .text .now) (turn .i) (omega arith) (omega arith), ne-eqb _ _ (c .if2 .taken))
+returns-2 c = search other-byte
 
 add-i : tie.Need-add-i Inv-loop μ-loop
 add-i c = omega arith
@@ -42,22 +70,10 @@ loop-less : tie.Need-loop-less Inv-loop μ-loop
 loop-less c = omega arith
 
 loop-again : tie.Need-loop-again Inv-loop μ-loop
-loop-again c =
-    let a = c .before .before .before .before .before .before .args in
-    let turn = c .before .before .before .before .loop in (
-      omega arith,
-      refl,
-      omega arith,
-      turn .inv .3 ∙ rw (begins-step (a .name .now) (a .text .now) (turn .i) (omega arith) (omega arith), eq-eqb _ _ (c .if2 .left)),
-    )
+loop-again c = search same-byte
 
 returns-3 : tie.Need-returns-3 Inv-loop μ-loop
-unfolding beginsWith
-returns-3 c =
-    let a = c .before .before .before .args in
-    let turn = c .before .loop in
-    let all : length (a .name .now) ≤ turn .i = omega arith in
-    rw (turn .inv .3, drop-of-length-le (a .name .now) all)
+returns-3 c = search all-passed
 
 pub begins-with-spec : {M : Type 1} → statement M
 begins-with-spec =

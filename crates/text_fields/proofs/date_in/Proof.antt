@@ -1,186 +1,145 @@
--- What the calls of `two_at` tell, in the order of the definition.
-use mathlib.Core.Option.{bind}
-use mathlib.Core.Path.{sym, ap, _∙_}
+-- The octets of fourteen digits are the seven fields, read one after the other.
+use mathlib.Core.Bool.{true, false, not}
+use mathlib.Core.List.{List, []}
+use mathlib.Core.Option.{Option, none, some, bind, Option·map}
+use mathlib.Core.Path.{_≡_, refl, sym, ap, _∙_}
+use Prim.Native.Nat.{ℕ, _≤_}
+use native.Mathlib.Omega.{arith}
 use borrow.Author.Needs.{needs}
-use borrow.Author.Tests.{eq-eqb, ne-eqb}
-use Rattle.wire.specs.Digits.{octet}
+use borrow.Author.Tests.{eq-eqb, ne-eqb, le-ltb, not-true, not-false}
+use lib.ListN.{length, getD, take, length-take, drop-of-length-le}
+use lib.Seq.{getD-take}
+use Rattle.wire.specs.Digits.{twoAt, cons, unhex, octetsIn, octets}
+use Rattle.wire.specs.declared.digits.Octets.{Octets}
+use Rattle.wire.proofs.DigitLaws.{unhex-step, bytes-length}
 use Rattle.messages.specs.Read.{dateIn}
+use Rattle.messages.specs.declared.message.Date.{Date}
 use Rattle.text_fields.proofs.date_in.Statement.{statement}
 use Rattle.text_fields.proofs.date_in.Tie as tie
 
+abbrev dateOf : List ℕ → Date
+dateOf s =
+    record {
+      year = getD s 0 0;
+      month = getD s 1 0;
+      day = getD s 2 0;
+      weekday = getD s 3 0;
+      hour = getD s 4 0;
+      minute = getD s 5 0;
+      daylight = getD s 6 0;
+    }
+
+abbrev allOf : (a b c d e f g : Option ℕ) → Option (List ℕ)
+allOf a b c d e f g = cons a (cons b (cons c (cons d (cons e (cons f (cons g (some [])))))))
+
+seven : (t : List ℕ) → length t ≡ 14
+    → unhex t ≡ allOf (twoAt t 0) (twoAt t 2) (twoAt t 4) (twoAt t 6) (twoAt t 8) (twoAt t 10) (twoAt t 12)
+unfolding unhex
+seven t h =
+    let end : length t ≤ 14 = omega arith in
+    unhex-step t 0 (omega arith)
+    ∙ rw (
+      unhex-step t 1 (omega arith),
+      unhex-step t 2 (omega arith),
+      unhex-step t 3 (omega arith),
+      unhex-step t 4 (omega arith),
+      unhex-step t 5 (omega arith),
+      unhex-step t 6 (omega arith),
+      drop-of-length-le t end,
+    )
+
+fields : (a b c d e f g : Option ℕ) → Option·map dateOf (allOf a b c d e f g)
+    ≡ bind a λ yy. bind b λ mm. bind c λ dd. bind d λ ww. bind e λ hh. bind f λ mn. bind g λ ds.
+    some (record { year = yy; month = mm; day = dd; weekday = ww; hour = hh; minute = mn; daylight = ds })
+unfolding bind
+fields none b c d e f g = refl
+fields (some yy) none c d e f g = refl
+fields (some yy) (some mm) none d e f g = refl
+fields (some yy) (some mm) (some dd) none e f g = refl
+fields (some yy) (some mm) (some dd) (some ww) none f g = refl
+fields (some yy) (some mm) (some dd) (some ww) (some hh) none g = refl
+fields (some yy) (some mm) (some dd) (some ww) (some hh) (some mn) none = refl
+fields (some yy) (some mm) (some dd) (some ww) (some hh) (some mn) (some ds) = refl
+
+same-fields : (n : ℕ) (s : List ℕ) → 7 ≤ n → dateOf (take n s) ≡ dateOf s
+same-fields n s h =
+    rw (
+      getD-take n s 0 0 (omega arith),
+      getD-take n s 1 0 (omega arith),
+      getD-take n s 2 0 (omega arith),
+      getD-take n s 3 0 (omega arith),
+      getD-take n s 4 0 (omega arith),
+      getD-take n s 5 0 (omega arith),
+      getD-take n s 6 0 (omega arith),
+    )
+
+module _ (t : List ℕ) where
+  other-length : (length t ≡ 14 → ⊥) → none ≡ dateIn t
+  unfolding dateIn
+  other-length n = rw (ne-eqb (length t) 14 n)
+
+  module _ (size : length t ≡ 14) where
+    as-octets : Option·map dateOf (octetsIn t) ≡ dateIn t
+    unfolding dateIn octetsIn
+    as-octets =
+        rw (eq-eqb (length t) 14 size, le-ltb 32 (length t) (omega arith), seven t size)
+        (fields (twoAt t 0) (twoAt t 2) (twoAt t 4) (twoAt t 6) (twoAt t 8) (twoAt t 10) (twoAt t 12))
+
+    module _ (o : Octets) (told : octets o ≡ octetsIn t) where
+      bad-digits : not (o .good) ≡ true → none ≡ dateIn t
+      bad-digits n = rw (← as-octets, ← told, not-true (o .good) n)
+
+      read : not (o .good) ≡ false → some (dateOf (o .bytes)) ≡ dateIn t
+      read n =
+          let found : octetsIn t ≡ some (take (o .count) (o .bytes)) = rw (← told, not-false (o .good) n) in
+          let enough : 7 ≤ o .count = omega (arith, bytes-length t found, length-take (o .count) (o .bytes)) in
+          rw (← as-octets, found) (ap some (sym (same-fields (o .count) (o .bytes) enough)))
+
 returns : tie.Need-returns
-unfolding dateIn bind
-returns c = rw (ne-eqb _ _ (c .if1 .taken))
+returns c = search other-length
 
-two-at-requires : tie.Need-two-at-requires
-two-at-requires c κs = search needs
-
-enum-known-year : tie.Need-enum-known-year
-enum-known-year c = search needs
-
-enum-told : tie.Need-enum-told
-enum-told c = search needs
+octets-in-requires : tie.Need-octets-in-requires
+octets-in-requires c κs = search needs
 
 returns-2 : tie.Need-returns-2
-unfolding dateIn bind
-returns-2 c = rw (eq-eqb _ _ (c .before .before .before .if1 .left), sym (c .before .before .two-at .ensures) ∙ ap octet (c .enum-told .given .1))
+returns-2 c = search bad-digits
 
-two-at-requires-2 : tie.Need-two-at-requires-2
-two-at-requires-2 c κs = search needs
+array-read-t9 : tie.Need-array-read-t9
+array-read-t9 c = search needs
 
-enum-known-month : tie.Need-enum-known-month
-enum-known-month c = search needs
+array-read-t12 : tie.Need-array-read-t12
+array-read-t12 c = search needs
 
-enum-told-2 : tie.Need-enum-told-2
-enum-told-2 c = search needs
+array-read-t15 : tie.Need-array-read-t15
+array-read-t15 c = search needs
+
+array-read-t18 : tie.Need-array-read-t18
+array-read-t18 c = search needs
+
+array-read-t21 : tie.Need-array-read-t21
+array-read-t21 c = search needs
+
+array-read-t24 : tie.Need-array-read-t24
+array-read-t24 c = search needs
+
+array-read-t27 : tie.Need-array-read-t27
+array-read-t27 c = search needs
 
 returns-3 : tie.Need-returns-3
-unfolding dateIn bind
-returns-3 c =
-    let year = c .before .before .before .before in
-    rw
-    (eq-eqb _ _ (year .before .before .before .if1 .left), sym (year .before .before .two-at .ensures) ∙ ap octet (year .year .given .1), sym (c .before .before .two-at2 .ensures) ∙ ap octet (c .enum-told2 .given .1))
-
-two-at-requires-3 : tie.Need-two-at-requires-3
-two-at-requires-3 c κs = search needs
-
-enum-known-day : tie.Need-enum-known-day
-enum-known-day c = search needs
-
-enum-told-3 : tie.Need-enum-told-3
-enum-told-3 c = search needs
-
-returns-4 : tie.Need-returns-4
-unfolding dateIn bind
-returns-4 c =
-    let month = c .before .before .before .before in
-    let year = month .before .before .before .before in
-    rw
-    (eq-eqb _ _ (year .before .before .before .if1 .left), sym (year .before .before .two-at .ensures) ∙ ap octet (year .year .given .1), sym (month .before .before .two-at2 .ensures) ∙ ap octet (month .month .given .1), sym (c .before .before .two-at3 .ensures) ∙ ap octet (c .enum-told3 .given .1))
-
-two-at-requires-4 : tie.Need-two-at-requires-4
-two-at-requires-4 c κs = search needs
-
-enum-known-weekday : tie.Need-enum-known-weekday
-enum-known-weekday c = search needs
-
-enum-told-4 : tie.Need-enum-told-4
-enum-told-4 c = search needs
-
-returns-5 : tie.Need-returns-5
-unfolding dateIn bind
-returns-5 c =
-    let day = c .before .before .before .before in
-    let month = day .before .before .before .before in
-    let year = month .before .before .before .before in
-    rw
-    (eq-eqb _ _ (year .before .before .before .if1 .left), sym (year .before .before .two-at .ensures) ∙ ap octet (year .year .given .1), sym (month .before .before .two-at2 .ensures) ∙ ap octet (month .month .given .1), sym (day .before .before .two-at3 .ensures) ∙ ap octet (day .day .given .1), sym (c .before .before .two-at4 .ensures) ∙ ap octet (c .enum-told4 .given .1))
-
-two-at-requires-5 : tie.Need-two-at-requires-5
-two-at-requires-5 c κs = search needs
-
-enum-known-hour : tie.Need-enum-known-hour
-enum-known-hour c = search needs
-
-enum-told-5 : tie.Need-enum-told-5
-enum-told-5 c = search needs
-
-returns-6 : tie.Need-returns-6
-unfolding dateIn bind
-returns-6 c =
-    let weekday = c .before .before .before .before in
-    let day = weekday .before .before .before .before in
-    let month = day .before .before .before .before in
-    let year = month .before .before .before .before in
-    rw
-    (eq-eqb _ _ (year .before .before .before .if1 .left), sym (year .before .before .two-at .ensures) ∙ ap octet (year .year .given .1), sym (month .before .before .two-at2 .ensures) ∙ ap octet (month .month .given .1), sym (day .before .before .two-at3 .ensures) ∙ ap octet (day .day .given .1), sym (weekday .before .before .two-at4 .ensures) ∙ ap octet (weekday .weekday .given .1), sym (c .before .before .two-at5 .ensures) ∙ ap octet (c .enum-told5 .given .1))
-
-two-at-requires-6 : tie.Need-two-at-requires-6
-two-at-requires-6 c κs = search needs
-
-enum-known-minute : tie.Need-enum-known-minute
-enum-known-minute c = search needs
-
-enum-told-6 : tie.Need-enum-told-6
-enum-told-6 c = search needs
-
-returns-7 : tie.Need-returns-7
-unfolding dateIn bind
-returns-7 c =
-    let hour = c .before .before .before .before in
-    let weekday = hour .before .before .before .before in
-    let day = weekday .before .before .before .before in
-    let month = day .before .before .before .before in
-    let year = month .before .before .before .before in
-    rw
-    (eq-eqb _ _ (year .before .before .before .if1 .left), sym (year .before .before .two-at .ensures) ∙ ap octet (year .year .given .1), sym (month .before .before .two-at2 .ensures) ∙ ap octet (month .month .given .1), sym (day .before .before .two-at3 .ensures) ∙ ap octet (day .day .given .1), sym (weekday .before .before .two-at4 .ensures) ∙ ap octet (weekday .weekday .given .1), sym (hour .before .before .two-at5 .ensures) ∙ ap octet (hour .hour .given .1), sym (c .before .before .two-at6 .ensures) ∙ ap octet (c .enum-told6 .given .1))
-
-two-at-requires-7 : tie.Need-two-at-requires-7
-two-at-requires-7 c κs = search needs
-
-enum-known-daylight : tie.Need-enum-known-daylight
-enum-known-daylight c = search needs
-
-enum-told-7 : tie.Need-enum-told-7
-enum-told-7 c = search needs
-
-returns-8 : tie.Need-returns-8
-unfolding dateIn bind
-returns-8 c =
-    let laid = c in
-    let minute = laid .before .before .before .before in
-    let hour = minute .before .before .before .before in
-    let weekday = hour .before .before .before .before in
-    let day = weekday .before .before .before .before in
-    let month = day .before .before .before .before in
-    let year = month .before .before .before .before in
-    rw
-    (eq-eqb _ _ (year .before .before .before .if1 .left), sym (year .before .before .two-at .ensures) ∙ ap octet (year .year .given .1), sym (month .before .before .two-at2 .ensures) ∙ ap octet (month .month .given .1), sym (day .before .before .two-at3 .ensures) ∙ ap octet (day .day .given .1), sym (weekday .before .before .two-at4 .ensures) ∙ ap octet (weekday .weekday .given .1), sym (hour .before .before .two-at5 .ensures) ∙ ap octet (hour .hour .given .1), sym (minute .before .before .two-at6 .ensures) ∙ ap octet (minute .minute .given .1), sym (laid .before .before .two-at7 .ensures) ∙ ap octet (laid .enum-told7 .given .1))
-
-returns-9 : tie.Need-returns-9
-unfolding dateIn bind
-returns-9 c =
-    let daylight = c .before in
-    let minute = daylight .before .before .before .before in
-    let hour = minute .before .before .before .before in
-    let weekday = hour .before .before .before .before in
-    let day = weekday .before .before .before .before in
-    let month = day .before .before .before .before in
-    let year = month .before .before .before .before in
-    rw
-    (eq-eqb _ _ (year .before .before .before .if1 .left), sym (year .before .before .two-at .ensures) ∙ ap octet (year .year .given .1), sym (month .before .before .two-at2 .ensures) ∙ ap octet (month .month .given .1), sym (day .before .before .two-at3 .ensures) ∙ ap octet (day .day .given .1), sym (weekday .before .before .two-at4 .ensures) ∙ ap octet (weekday .weekday .given .1), sym (hour .before .before .two-at5 .ensures) ∙ ap octet (hour .hour .given .1), sym (minute .before .before .two-at6 .ensures) ∙ ap octet (minute .minute .given .1), sym (daylight .before .before .two-at7 .ensures) ∙ ap octet (daylight .daylight .given .1))
+returns-3 c = search read
 
 pub date-in-spec : {M : Type 1} → statement M
 date-in-spec =
     tie.close
     (tie.spec
     returns
-    two-at-requires
-    enum-known-year
-    enum-told
+    octets-in-requires
     returns-2
-    two-at-requires-2
-    enum-known-month
-    enum-told-2
-    returns-3
-    two-at-requires-3
-    enum-known-day
-    enum-told-3
-    returns-4
-    two-at-requires-4
-    enum-known-weekday
-    enum-told-4
-    returns-5
-    two-at-requires-5
-    enum-known-hour
-    enum-told-5
-    returns-6
-    two-at-requires-6
-    enum-known-minute
-    enum-told-6
-    returns-7
-    two-at-requires-7
-    enum-known-daylight
-    enum-told-7
-    returns-8
-    returns-9)
+    array-read-t9
+    array-read-t12
+    array-read-t15
+    array-read-t18
+    array-read-t21
+    array-read-t24
+    array-read-t27
+    returns-3)

@@ -8,8 +8,10 @@ use Prim.Native.Nat.{ℕ, zero, suc}
 use native.Mathlib.Omega.{arith}
 use lib.Dec.{eqb}
 use lib.ListN.{length, take}
-use Rattle.erase.specs.Calls.{isSoundAs}
-use Rattle.board.specs.View.{soundWith, pendingFits}
+use Rattle.calls.specs.Calls.{isSoundAs}
+use Rattle.board.specs.BoardKind.{boardKind}
+use Rattle.board.specs.View.{eraseOf}
+use Rattle.board.specs.Inner.{soundWith, pendingFits}
 use Rattle.board.specs.declared.board.Erase.{Erase}
 use Rattle.board.proofs.sound.is_sound.Statement.{statement}
 use Rattle.board.proofs.sound.is_sound.Tie as tie
@@ -19,10 +21,14 @@ none-held zero a h = refl
 none-held (suc n) [] h = absurd (omega arith)
 none-held (suc n) (b ∷ a) h = ne-eqb (length (take (suc n) (b ∷ a))) 0 (λ e. omega arith) ∙ sym (ne-eqb (suc n) 0 (λ e. omega arith))
 
-pending-sound : (n place : ℕ) (owed : Bool) (a m : List ℕ) → length a ≡ 73 → length m ≡ 128
-    → pendingFits n place m ≡ soundWith (take n a) (Erase.Pending place owed) m
-unfolding isSoundAs
-pending-sound n place owed a m h k = rw (k, none-held n a h)
+module _ (n : ℕ) (a m : List ℕ) (e : Erase) {r : Bool} (size : length m ≡ 128) where
+  idle-sound : r ≡ isSoundAs boardKind (eraseOf Erase.Idle) (take n a) m → e ≡ Erase.Idle → r ≡ soundWith (take n a) e m
+  idle-sound t q = t ∙ sym (rw (q, size))
+
+  pending-sound : (place : ℕ) (owed : Bool) → r ≡ pendingFits n place m → e ≡ Erase.Pending place owed → length a ≡ 73
+      → r ≡ soundWith (take n a) e m
+  unfolding isSoundAs
+  pending-sound place owed t q h = t ∙ sym (rw (q, size, none-held n a h))
 
 returns : tie.Need-returns
 returns c = rw (ne-eqb _ _ (c .if1 .taken))
@@ -34,7 +40,7 @@ is-sound-idle-requires : tie.Need-is-sound-idle-requires
 is-sound-idle-requires c κs = search needs
 
 returns-2 : tie.Need-returns-2
-returns-2 c = rw (c .before .enum-told .given .1, c .before .before .before .if1 .left) (c .is-sound-idle .ensures)
+returns-2 c = search idle-sound
 
 enum-known-erase : tie.Need-enum-known-erase
 enum-known-erase c = search needs
@@ -43,11 +49,7 @@ is-sound-pending-requires : tie.Need-is-sound-pending-requires
 is-sound-pending-requires c κs = search needs
 
 returns-3 : tie.Need-returns-3
-returns-3 c =
-    let start = c .before .before .before .before .before .before in
-    rw (c .before .before .erase .given .1)
-    (c .is-sound-pending .ensures
-    ∙ pending-sound (start .args .len) _ _ (start .args .held .now) (start .args .store .now) (start .pre) (c .before .before .before .before .if1 .left))
+returns-3 c = search pending-sound
 
 pub is-sound-spec : {M : Type 1} → statement M
 is-sound-spec =

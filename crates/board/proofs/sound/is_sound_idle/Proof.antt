@@ -8,23 +8,23 @@ use Prim.Native.Nat.{ℕ}
 use lib.ListN.{getD}
 use Rattle.receiver.specs.Receive.{isProperBeginning}
 use Rattle.store.specs.Layout.{fieldsInRange, unusedStore}
-use Rattle.erase.specs.Board.{idle}
-use Rattle.erase.specs.Calls.{mark, isSoundAs}
-use Rattle.board.specs.Calls.{thisBoard}
+use Rattle.calls.specs.Board.{idle}
+use Rattle.calls.specs.Calls.{mark, isSoundAs}
+use Rattle.board.specs.BoardKind.{boardKind}
 use Rattle.board.proofs.sound.is_sound_idle.Statement.{statement}
 use Rattle.board.proofs.sound.is_sound_idle.Tie as tie
 
 module _ (held m : List ℕ) where
-  other-mark : (getD m 0 0 ≡ 0 → ⊥) → false ≡ isSoundAs thisBoard idle held m
+  other-mark : (getD m 0 0 ≡ 0 → ⊥) → false ≡ isSoundAs boardKind idle held m
   unfolding isSoundAs mark unusedStore
   other-mark f = rw (ne-eqb (getD m 0 0) 0 f)
 
   module _ (marked : getD m 0 0 ≡ 0) (a : Bool) (fields : a ≡ fieldsInRange m) where
-    out-of-range : not a ≡ true → false ≡ isSoundAs thisBoard idle held m
+    out-of-range : not a ≡ true → false ≡ isSoundAs boardKind idle held m
     unfolding isSoundAs mark unusedStore
     out-of-range e = rw (marked, ← fields, not-true a e)
 
-    in-range : not a ≡ false → (r : Bool) → r ≡ isProperBeginning held → r ≡ isSoundAs thisBoard idle held m
+    in-range : not a ≡ false → (r : Bool) → r ≡ isProperBeginning held → r ≡ isSoundAs boardKind idle held m
     unfolding isSoundAs mark unusedStore
     in-range e r proper = proper ∙ rw (marked, ← fields, not-false a e)
 

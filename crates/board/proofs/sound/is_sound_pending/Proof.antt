@@ -1,7 +1,7 @@
 -- Each test of the code is one of the definition's; the cleared bytes are judged by the callee.
 use borrow.Author.Needs.{needs}
 use Rattle.wire.proofs.Tests.{tests}
-use Rattle.erase.specs.Calls.{mark}
+use Rattle.calls.specs.Calls.{mark}
 use Rattle.board.proofs.sound.is_sound_pending.Statement.{statement}
 use Rattle.board.proofs.sound.is_sound_pending.Tie as tie
 

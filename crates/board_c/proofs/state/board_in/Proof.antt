@@ -13,29 +13,29 @@ returns : tie.Need-returns
 unfolding boardIn
 returns c = search (tests, c .no-board .ensures)
 
-sub-text-in : tie.Need-sub-text-in
-sub-text-in c = search needs
+sub-item-in : tie.Need-sub-item-in
+sub-item-in c = search needs
 
-part-text-in-start : tie.Need-part-text-in-start
-part-text-in-start c = search needs
+part-item-in-start : tie.Need-part-item-in-start
+part-item-in-start c = search needs
 
-part-text-in-end : tie.Need-part-text-in-end
-part-text-in-end c = search needs
+part-item-in-end : tie.Need-part-item-in-end
+part-item-in-end c = search needs
 
-text-in-requires : tie.Need-text-in-requires
-text-in-requires c κs = search needs
+item-in-requires : tie.Need-item-in-requires
+item-in-requires c κs = search needs
 
-sub-text-in-2 : tie.Need-sub-text-in-2
-sub-text-in-2 c = search needs
+sub-item-in-2 : tie.Need-sub-item-in-2
+sub-item-in-2 c = search needs
 
-part-text-in-start-2 : tie.Need-part-text-in-start-2
-part-text-in-start-2 c = search needs
+part-item-in-start-2 : tie.Need-part-item-in-start-2
+part-item-in-start-2 c = search needs
 
-part-text-in-end-2 : tie.Need-part-text-in-end-2
-part-text-in-end-2 c = search needs
+part-item-in-end-2 : tie.Need-part-item-in-end-2
+part-item-in-end-2 c = search needs
 
-text-in-requires-2 : tie.Need-text-in-requires-2
-text-in-requires-2 c κs = search needs
+item-in-requires-2 : tie.Need-item-in-requires-2
+item-in-requires-2 c κs = search needs
 
 slice-aggregate-put-bytes : tie.Need-slice-aggregate-put-bytes
 slice-aggregate-put-bytes c = search needs
@@ -68,8 +68,7 @@ erase-in-requires : tie.Need-erase-in-requires
 erase-in-requires c κs = search needs
 
 returns-2 : tie.Need-returns-2
-returns-2 c =
-    board-read (c .before .before .before .before .before .before .before .before .before .before .before .before .before .before .before .args .state .now) _ _ _ _ (c .before .before .before .before .before .before .before .before .before .before .before .before .before .if1 .left) (c .before .before .before .before .before .before .before .before .before .before .before .text-in .ensures) (c .before .before .before .before .before .before .before .before .before .text-in2 .ensures) (c .before .before .before .before .before .before .put-bytes .ensures) (c .erase-in .ensures)
+returns-2 c = search board-read
 
 pub board-in-spec : {M : Type 1} → statement M
 board-in-spec =
@@ -77,14 +76,14 @@ board-in-spec =
     (tie.spec
     no-board-requires
     returns
-    sub-text-in
-    part-text-in-start
-    part-text-in-end
-    text-in-requires
-    sub-text-in-2
-    part-text-in-start-2
-    part-text-in-end-2
-    text-in-requires-2
+    sub-item-in
+    part-item-in-start
+    part-item-in-end
+    item-in-requires
+    sub-item-in-2
+    part-item-in-start-2
+    part-item-in-end-2
+    item-in-requires-2
     slice-aggregate-put-bytes
     sub-put-bytes
     part-put-bytes-start

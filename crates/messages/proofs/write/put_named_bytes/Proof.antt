@@ -1,13 +1,21 @@
 -- The digits of the bytes go right behind the name.
-use Prim.Native.Nat.{_+_, _*_}
+use mathlib.Core.List.{List, _++_}
+use mathlib.Core.Path.{_≡_}
+use Prim.Native.Nat.{ℕ, _+_, _*_}
 use native.Mathlib.Omega.{arith}
-use lib.ListN.{length}
 use borrow.Author.Needs.{needs}
-use Rattle.wire.specs.Digits.{hexOf}
+use lib.ListN.{length}
+use lib.Seq.{paste}
+use Rattle.wire.specs.Digits.{four, hexOf}
 use Rattle.wire.proofs.DigitLaws.{hex-length}
+use Rattle.messages.specs.Inner.{Writes}
 use Rattle.messages.proofs.WriteLaws.{named-written}
 use Rattle.messages.proofs.write.put_named_bytes.Statement.{statement}
 use Rattle.messages.proofs.write.put_named_bytes.Tie as tie
+
+written : (kind : ℕ) (name s o b m : List ℕ) → b ≡ paste m 4 (hexOf s) (length (hexOf s)) → m ≡ paste o 0 name (length name)
+    → length name ≡ 4 → Writes kind (name ++ hexOf s) (record { kind = kind; length = 4 + 2 * length s }) o b
+written kind name s o b m e f four = named-written kind (4 + 2 * length s) name (hexOf s) four (omega (arith, hex-length s)) f e
 
 put-bytes-requires : tie.Need-put-bytes-requires
 put-bytes-requires c κs = search needs
@@ -22,12 +30,7 @@ add-t14 : tie.Need-add-t14
 add-t14 c = search needs
 
 returns : tie.Need-returns
-returns c =
-    let name = c .before .before in
-    let a = name .before .before .before .before .args in
-    let s = a .bytes .now in
-    named-written (a .kind) (4 + 2 * length s) (a .name .now) (hexOf s) (omega arith) (omega (arith, hex-length s))
-    (name .put-bytes .ensures) (c .put-hex .ensures)
+returns c = search written
 
 pub put-named-bytes-spec : {M : Type 1} → statement M
 put-named-bytes-spec =

@@ -1,17 +1,58 @@
 -- The callee of each case writes the text of that case.
-use mathlib.Core.Path.{_≡_, refl, ap}
+use mathlib.Core.List.{List, _++_}
+use mathlib.Core.Path.{_≡_, refl}
+use Prim.Native.Nat.{ℕ, _≤_}
 use borrow.Author.Needs.{needs}
-use Rattle.messages.specs.Text.{typeB, replyType, replyText}
-use Rattle.messages.specs.View.{dateAnswerOf, replyCount}
+use lib.ListN.{length, take}
+use Rattle.wire.specs.Digits.{hexOf}
+use Rattle.wire.specs.Packet.{typeB}
+use Rattle.messages.specs.Text.{replyType, replyText, itemReplyName}
+use Rattle.messages.specs.View.{replyOf, dateAnswerOf}
+use Rattle.messages.specs.Inner.{Beside, Writes, replyCount}
+use Rattle.messages.specs.declared.message.Date.{Date}
 use Rattle.messages.specs.declared.message.DateAnswer.{DateAnswer}
+use Rattle.messages.specs.declared.message.Item.{Item}
+use Rattle.messages.specs.declared.message.Status.{Status}
+use Rattle.messages.specs.declared.message.Reply.{Reply}
+use Rattle.messages.specs.declared.write.Written.{Written}
 use Rattle.messages.proofs.WriteLaws.{part-length, part-few}
 use Rattle.messages.proofs.write.reply_text.Statement.{statement}
 use Rattle.messages.proofs.write.reply_text.Tie as tie
 
-date-answer-type : (a : DateAnswer) → replyType (dateAnswerOf a) ≡ typeB
-unfolding replyType
-date-answer-type (DateAnswer.Read d) = refl
-date-answer-type (DateAnswer.Written o d) = refl
+module _ (r : Reply) (bytes : List ℕ) where
+  of-case : (s : Reply) → r ≡ s → (w : Written) (o b : List ℕ)
+      → Writes (replyType (replyOf s bytes)) (replyText (replyOf s bytes)) w o b
+      → Writes (replyType (replyOf r bytes)) (replyText (replyOf r bytes)) w o b
+  of-case s e w o b p = rw e p
+
+  date-type : (a : DateAnswer) → replyType (dateAnswerOf a) ≡ typeB
+  unfolding replyType
+  date-type (DateAnswer.Read d) = refl
+  date-type (DateAnswer.Written o d) = refl
+
+  of-date : (a : DateAnswer) → r ≡ Reply.Date a → (w : Written) (o b : List ℕ) → Writes typeB (replyText (dateAnswerOf a)) w o b
+      → Writes (replyType (replyOf r bytes)) (replyText (replyOf r bytes)) w o b
+  of-date a e w o b p = rw (e, date-type a) p
+
+  module _ (i : Item) (n : ℕ) (e : r ≡ Reply.Item i n) where
+    of-item : (name : List ℕ) → name ≡ itemReplyName i → (w : Written) (o b : List ℕ) → Writes typeB (name ++ hexOf (take n bytes)) w o b
+        → Writes (replyType (replyOf r bytes)) (replyText (replyOf r bytes)) w o b
+    unfolding replyType replyText
+    of-item name is w o b p = rw (e, ← is) p
+
+    module _ (beside : Beside (replyCount r) bytes) where
+      item-length : n ≡ length (take n bytes)
+      item-length = part-length beside (rw e)
+
+      item-few : length (take n bytes) ≤ 16
+      item-few = part-few {n = n} beside (rw e)
+
+  module _ (s : Status) (n : ℕ) (e : r ≡ Reply.TagWritten s n) (beside : Beside (replyCount r) bytes) where
+    tag-length : n ≡ length (take n bytes)
+    tag-length = part-length beside (rw e)
+
+    tag-few : length (take n bytes) ≤ 16
+    tag-few = part-few {n = n} beside (rw e)
 
 enum-told : tie.Need-enum-told
 enum-told c = search needs
@@ -24,7 +65,7 @@ put-name-requires c κs = search needs
 
 returns : tie.Need-returns
 unfolding replyType replyText
-returns c = rw (c .before .before .before .enum-told .given .1) (c .put-name .ensures)
+returns c = search of-case
 
 enum-known-reply : tie.Need-enum-known-reply
 enum-known-reply c = search needs
@@ -34,7 +75,7 @@ put-parameter-requires c κs = search needs
 
 returns-2 : tie.Need-returns-2
 unfolding replyType replyText
-returns-2 c = rw (c .before .before .before .reply .given .1) (c .put-parameter .ensures)
+returns-2 c = search of-case
 
 enum-known-reply-2 : tie.Need-enum-known-reply-2
 enum-known-reply-2 c = search needs
@@ -44,7 +85,7 @@ put-parameter-requires-2 c κs = search needs
 
 returns-3 : tie.Need-returns-3
 unfolding replyType replyText
-returns-3 c = rw (c .before .before .before .reply2 .given .1) (c .put-parameter2 .ensures)
+returns-3 c = search of-case
 
 enum-known-reply-3 : tie.Need-enum-known-reply-3
 enum-known-reply-3 c = search needs
@@ -54,7 +95,7 @@ put-power-read-reply-requires c κs = search needs
 
 returns-4 : tie.Need-returns-4
 unfolding replyType replyText
-returns-4 c = rw (c .before .before .before .reply3 .given .1) (c .put-power-read-reply .ensures)
+returns-4 c = search of-case
 
 enum-known-reply-4 : tie.Need-enum-known-reply-4
 enum-known-reply-4 c = search needs
@@ -64,7 +105,7 @@ put-power-control-reply-requires c κs = search needs
 
 returns-5 : tie.Need-returns-5
 unfolding replyType replyText
-returns-5 c = rw (c .before .before .before .reply4 .given .1) (c .put-power-control-reply .ensures)
+returns-5 c = search of-case
 
 enum-known-reply-5 : tie.Need-enum-known-reply-5
 enum-known-reply-5 c = search needs
@@ -73,8 +114,7 @@ put-date-reply-requires : tie.Need-put-date-reply-requires
 put-date-reply-requires c κs = search needs
 
 returns-6 : tie.Need-returns-6
-unfolding replyType replyText
-returns-6 c = rw (c .before .before .before .reply5 .given .1, date-answer-type) (c .put-date-reply .ensures)
+returns-6 c = search of-date
 
 enum-known-reply-6 : tie.Need-enum-known-reply-6
 enum-known-reply-6 c = search needs
@@ -86,14 +126,13 @@ item-reply-name-requires : tie.Need-item-reply-name-requires
 item-reply-name-requires c κs = search needs
 
 slice-aggregate-put-named-bytes : tie.Need-slice-aggregate-put-named-bytes
-slice-aggregate-put-named-bytes c = part-length (c .before .before .before .before .before .before .before .pre) (ap replyCount (c .before .before .before .before .reply6 .given .1))
+slice-aggregate-put-named-bytes c = search item-length
 
 put-named-bytes-requires : tie.Need-put-named-bytes-requires
-put-named-bytes-requires c κs = part-few (c .before .before .before .before .before .before .before .before .pre) (ap replyCount (c .before .before .before .before .before .reply6 .given .1))
+put-named-bytes-requires c κs = search item-few
 
 returns-7 : tie.Need-returns-7
-unfolding replyType replyText
-returns-7 c = rw (c .before .before .before .before .before .before .reply6 .given .1, ← c .before .before .before .before .item-reply-name .ensures) (c .put-named-bytes .ensures)
+returns-7 c = search of-item
 
 enum-known-reply-7 : tie.Need-enum-known-reply-7
 enum-known-reply-7 c = search needs
@@ -102,14 +141,14 @@ cast-n-2 : tie.Need-cast-n-2
 cast-n-2 c = search needs
 
 slice-aggregate-put-tag-write-reply : tie.Need-slice-aggregate-put-tag-write-reply
-slice-aggregate-put-tag-write-reply c = part-length (c .before .before .before .before .before .pre) (ap replyCount (c .before .before .reply7 .given .1))
+slice-aggregate-put-tag-write-reply c = search tag-length
 
 put-tag-write-reply-requires : tie.Need-put-tag-write-reply-requires
-put-tag-write-reply-requires c κs = part-few (c .before .before .before .before .before .before .pre) (ap replyCount (c .before .before .before .reply7 .given .1))
+put-tag-write-reply-requires c κs = search tag-few
 
 returns-8 : tie.Need-returns-8
 unfolding replyType replyText
-returns-8 c = rw (c .before .before .before .before .reply7 .given .1) (c .put-tag-write-reply .ensures)
+returns-8 c = search of-case
 
 pub reply-text-spec : {M : Type 1} → statement M
 reply-text-spec =

@@ -1,11 +1,37 @@
 -- The callee of each case writes the text of that case.
-use mathlib.Core.Path.{ap}
+use mathlib.Core.List.{List}
+use mathlib.Core.Path.{_≡_}
+use Prim.Native.Nat.{ℕ, _≤_}
 use borrow.Author.Needs.{needs}
-use Rattle.messages.specs.Text.{requestType, requestText}
-use Rattle.messages.specs.View.{requestCount}
+use lib.ListN.{length, take}
+use Rattle.wire.specs.Packet.{typeA}
+use Rattle.messages.specs.Text.{requestType, requestText, itemReadName}
+use Rattle.messages.specs.View.{requestOf}
+use Rattle.messages.specs.Inner.{Beside, Writes, requestCount}
+use Rattle.messages.specs.declared.message.Item.{Item}
+use Rattle.messages.specs.declared.message.Request.{Request}
+use Rattle.messages.specs.declared.write.Written.{Written}
 use Rattle.messages.proofs.WriteLaws.{part-length, part-few}
 use Rattle.messages.proofs.write.request_text.Statement.{statement}
 use Rattle.messages.proofs.write.request_text.Tie as tie
+
+module _ (r : Request) (bytes : List ℕ) where
+  of-case : (s : Request) → r ≡ s → (w : Written) (o b : List ℕ)
+      → Writes (requestType (requestOf s bytes)) (requestText (requestOf s bytes)) w o b
+      → Writes (requestType (requestOf r bytes)) (requestText (requestOf r bytes)) w o b
+  of-case s e w o b p = rw e p
+
+  of-item : (i : Item) → r ≡ Request.ItemRead i → (name : List ℕ) → name ≡ itemReadName i → (w : Written) (o b : List ℕ)
+      → Writes typeA name w o b → Writes (requestType (requestOf r bytes)) (requestText (requestOf r bytes)) w o b
+  unfolding requestType requestText
+  of-item i e name is w o b p = rw (e, ← is) p
+
+  module _ (n : ℕ) (e : r ≡ Request.TagWrite n) (beside : Beside (requestCount r) bytes) where
+    tag-length : n ≡ length (take n bytes)
+    tag-length = part-length beside (rw e)
+
+    tag-few : length (take n bytes) ≤ 16
+    tag-few = part-few {n = n} beside (rw e)
 
 enum-known-request : tie.Need-enum-known-request
 enum-known-request c = search needs
@@ -15,7 +41,7 @@ put-get-requires c κs = search needs
 
 returns : tie.Need-returns
 unfolding requestType requestText
-returns c = rw (c .before .before .before .request .given .1) (c .put-get .ensures)
+returns c = search of-case
 
 enum-known-request-2 : tie.Need-enum-known-request-2
 enum-known-request-2 c = search needs
@@ -25,7 +51,7 @@ put-set-requires c κs = search needs
 
 returns-2 : tie.Need-returns-2
 unfolding requestType requestText
-returns-2 c = rw (c .before .before .before .request2 .given .1) (c .put-set .ensures)
+returns-2 c = search of-case
 
 enum-told : tie.Need-enum-told
 enum-told c = search needs
@@ -38,7 +64,7 @@ put-name-requires c κs = search needs
 
 returns-3 : tie.Need-returns-3
 unfolding requestType requestText
-returns-3 c = rw (c .before .before .before .enum-told .given .1) (c .put-name .ensures)
+returns-3 c = search of-case
 
 enum-known-request-3 : tie.Need-enum-known-request-3
 enum-known-request-3 c = search needs
@@ -48,7 +74,7 @@ put-power-control-requires c κs = search needs
 
 returns-4 : tie.Need-returns-4
 unfolding requestType requestText
-returns-4 c = rw (c .before .before .before .request3 .given .1) (c .put-power-control .ensures)
+returns-4 c = search of-case
 
 enum-told-2 : tie.Need-enum-told-2
 enum-told-2 c = search needs
@@ -61,7 +87,7 @@ put-name-requires-2 c κs = search needs
 
 returns-5 : tie.Need-returns-5
 unfolding requestType requestText
-returns-5 c = rw (c .before .before .before .enum-told2 .given .1) (c .put-name2 .ensures)
+returns-5 c = search of-case
 
 enum-known-request-4 : tie.Need-enum-known-request-4
 enum-known-request-4 c = search needs
@@ -71,7 +97,7 @@ put-named-date-requires c κs = search needs
 
 returns-6 : tie.Need-returns-6
 unfolding requestType requestText
-returns-6 c = rw (c .before .before .before .before .request4 .given .1) (c .put-named-date .ensures)
+returns-6 c = search of-case
 
 enum-known-request-5 : tie.Need-enum-known-request-5
 enum-known-request-5 c = search needs
@@ -86,8 +112,7 @@ put-name-requires-3 : tie.Need-put-name-requires-3
 put-name-requires-3 c κs = search needs
 
 returns-7 : tie.Need-returns-7
-unfolding requestType requestText
-returns-7 c = rw (c .before .before .before .before .before .request5 .given .1, ← c .before .before .before .item-read-name .ensures) (c .put-name3 .ensures)
+returns-7 c = search of-item
 
 enum-known-request-6 : tie.Need-enum-known-request-6
 enum-known-request-6 c = search needs
@@ -96,14 +121,14 @@ cast-n : tie.Need-cast-n
 cast-n c = search needs
 
 slice-aggregate-put-named-bytes : tie.Need-slice-aggregate-put-named-bytes
-slice-aggregate-put-named-bytes c = part-length (c .before .before .before .before .before .before .pre) (ap requestCount (c .before .before .before .request6 .given .1))
+slice-aggregate-put-named-bytes c = search tag-length
 
 put-named-bytes-requires : tie.Need-put-named-bytes-requires
-put-named-bytes-requires c κs = part-few (c .before .before .before .before .before .before .before .pre) (ap requestCount (c .before .before .before .before .request6 .given .1))
+put-named-bytes-requires c κs = search tag-few
 
 returns-8 : tie.Need-returns-8
 unfolding requestType requestText
-returns-8 c = rw (c .before .before .before .before .before .request6 .given .1) (c .put-named-bytes .ensures)
+returns-8 c = search of-case
 
 pub request-text-spec : {M : Type 1} → statement M
 request-text-spec =

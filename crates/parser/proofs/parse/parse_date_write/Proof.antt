@@ -1,7 +1,6 @@
 -- A date in the text is the request to write it.
-use mathlib.Core.Path.{sym, ap, _∙_}
 use borrow.Author.Needs.{needs}
-use Rattle.text_fields.specs.View.{dateOf}
+use Rattle.text_fields.proofs.TextLaws.{date-is, date-bad}
 use Rattle.parser.proofs.parse.parse_date_write.Statement.{statement}
 use Rattle.parser.proofs.parse.parse_date_write.Tie as tie
 
@@ -15,12 +14,10 @@ enum-told : tie.Need-enum-told
 enum-told c = search needs
 
 returns : tie.Need-returns
-returns c bytes = rw (sym (c .before .before .date-in .ensures) ∙ ap dateOf (c .enum-told .given .1))
+returns c bytes = search (date-is, date-bad)
 
 returns-2 : tie.Need-returns-2
-returns-2 c bytes =
-    let date = c .before in
-    rw (sym (date .before .before .date-in .ensures) ∙ ap dateOf (date .date .given .1))
+returns-2 c bytes = search (date-is, date-bad)
 
 pub parse-date-write-spec : {M : Type 1} → statement M
 parse-date-write-spec =

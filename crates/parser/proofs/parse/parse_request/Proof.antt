@@ -1,12 +1,29 @@
 -- The types in the order of the definition; what stands behind F011 is a tag if it is bytes.
-use mathlib.Core.Path.{sym, _∙_}
+use mathlib.Core.Bool.{true, false, not}
+use mathlib.Core.List.{List}
+use mathlib.Core.Option.{Option, none, some, Option·map}
+use mathlib.Core.Path.{_≡_}
+use Prim.Native.Nat.{ℕ, _-_}
 use borrow.Author.Needs.{needs}
-use borrow.Author.Tests.{eq-eqb, ne-eqb, not-true, not-false}
-use Rattle.messages.specs.Text.{tagWriteName}
+use borrow.Author.Tests.{not-true, not-false}
+use lib.ListN.{length, take, drop}
+use Rattle.wire.specs.Digits.{octets, octetsIn}
+use Rattle.wire.specs.declared.digits.Octets.{Octets}
+use Rattle.wire.proofs.Ways.{ways}
 use Rattle.messages.specs.Read.{requestIn}
-use Rattle.text_fields.proofs.TextLaws.{begins-length, part-rest}
+use Rattle.text_fields.proofs.TextLaws.{room-behind-not, part-rest}
+use Rattle.parser.proofs.ParseLaws.{without-bytes, other}
 use Rattle.parser.proofs.parse.parse_request.Statement.{statement}
 use Rattle.parser.proofs.parse.parse_request.Tie as tie
+
+-- what stands behind F011 is a tag if it is bytes
+module _ {A : Type 0} (t : List ℕ) (f : List ℕ → A) (z : Option A)
+    (r : Octets) (told : octets r ≡ octetsIn (take (length t - 4) (drop 4 t))) where
+  tag : not (r .good) ≡ false → z ≡ some (f (take (r .count) (r .bytes))) → z ≡ Option·map f (octetsIn (drop 4 t))
+  tag e p = rw (← part-rest 4 t, ← told, not-false (r .good) e) p
+
+  no-tag : not (r .good) ≡ true → z ≡ none → z ≡ Option·map f (octetsIn (drop 4 t))
+  no-tag e p = rw (← part-rest 4 t, ← told, not-true (r .good) e) p
 
 parse-get-requires : tie.Need-parse-get-requires
 parse-get-requires c κs = search needs
@@ -16,7 +33,7 @@ without-bytes-requires c κs = search needs
 
 returns : tie.Need-returns
 unfolding requestIn
-returns c = rw (c .without-bytes .ensures, eq-eqb _ _ (c .before .before .if1 .taken)) (c .before .parse-get .ensures _)
+returns c = search (ways, without-bytes) depth 10
 
 parse-set-requires : tie.Need-parse-set-requires
 parse-set-requires c κs = search needs
@@ -26,18 +43,14 @@ without-bytes-requires-2 c κs = search needs
 
 returns-2 : tie.Need-returns-2
 unfolding requestIn
-returns-2 c =
-    let set = c .before .before in
-    rw (c .without-bytes2 .ensures, ne-eqb _ _ (set .before .if1 .left), eq-eqb _ _ (set .if2 .taken)) (c .before .parse-set .ensures _)
+returns-2 c = search (ways, without-bytes) depth 10
 
 without-bytes-requires-3 : tie.Need-without-bytes-requires-3
 without-bytes-requires-3 c κs = search needs
 
 returns-3 : tie.Need-returns-3
 unfolding requestIn
-returns-3 c =
-    let other = c .before in
-    rw (c .without-bytes3 .ensures, ne-eqb _ _ (other .before .before .if1 .left), ne-eqb _ _ (other .before .if2 .left), ne-eqb _ _ (other .if3 .taken))
+returns-3 c = search (ways, other) depth 10
 
 slice-aggregate-begins-with : tie.Need-slice-aggregate-begins-with
 slice-aggregate-begins-with c = search needs
@@ -53,45 +66,30 @@ without-bytes-requires-4 c κs = search needs
 
 returns-4 : tie.Need-returns-4
 unfolding requestIn
-returns-4 c =
-    let plain = c .before .before in
-    let command = plain .before .before .before in
-    rw
-    (c .without-bytes4 .ensures, ne-eqb _ _ (command .before .before .if1 .left), ne-eqb _ _ (command .before .if2 .left), eq-eqb _ _ (command .if3 .left), sym (plain .before .begins-with .ensures) ∙ not-true (plain .before .begins-with .result) (plain .if4 .taken))
-    (c .before .parse-command .ensures _)
+returns-4 c = search (ways, without-bytes) depth 10
 
-sub-bytes-of : tie.Need-sub-bytes-of
-sub-bytes-of c = begins-length tagWriteName _ (sym (c .before .begins-with .ensures) ∙ not-false (c .before .begins-with .result) (c .if4 .left))
+sub-octets-in : tie.Need-sub-octets-in
+sub-octets-in c = search room-behind-not
 
-part-bytes-of-start : tie.Need-part-bytes-of-start
-part-bytes-of-start c = sub-bytes-of c
+part-octets-in-start : tie.Need-part-octets-in-start
+part-octets-in-start c = search room-behind-not
 
-part-bytes-of-end : tie.Need-part-bytes-of-end
-part-bytes-of-end c = search needs
+part-octets-in-end : tie.Need-part-octets-in-end
+part-octets-in-end c = search needs
 
-bytes-of-requires : tie.Need-bytes-of-requires
-bytes-of-requires c κs = search needs
+octets-in-requires : tie.Need-octets-in-requires
+octets-in-requires c κs = search needs
 
 without-bytes-requires-5 : tie.Need-without-bytes-requires-5
 without-bytes-requires-5 c κs = search needs
 
 returns-5 : tie.Need-returns-5
 unfolding requestIn
-returns-5 c =
-    let good = c .before in
-    let tag = good .before .before .before in
-    let command = tag .before .before .before in
-    rw
-    (c .without-bytes5 .ensures, ne-eqb _ _ (command .before .before .if1 .left), ne-eqb _ _ (command .before .if2 .left), eq-eqb _ _ (command .if3 .left), sym (tag .before .begins-with .ensures) ∙ not-false (tag .before .begins-with .result) (tag .if4 .left), ← part-rest 4 (command .before .before .before .before .args .text .now), ← good .before .bytes-of .ensures, not-true (good .before .bytes-of .result .good) (good .if5 .taken))
+returns-5 c = search (ways, no-tag, other) depth 10
 
 returns-6 : tie.Need-returns-6
 unfolding requestIn
-returns-6 c =
-    let good = c .before in
-    let tag = good .before .before .before in
-    let command = tag .before .before .before in
-    rw
-    (ne-eqb _ _ (command .before .before .if1 .left), ne-eqb _ _ (command .before .if2 .left), eq-eqb _ _ (command .if3 .left), sym (tag .before .begins-with .ensures) ∙ not-false (tag .before .begins-with .result) (tag .if4 .left), ← part-rest 4 (command .before .before .before .before .args .text .now), ← good .before .bytes-of .ensures, not-false (good .before .bytes-of .result .good) (good .if5 .left))
+returns-6 c = search (ways, tag) depth 10
 
 pub parse-request-spec : {M : Type 1} → statement M
 parse-request-spec =
@@ -110,10 +108,10 @@ parse-request-spec =
     parse-command-requires
     without-bytes-requires-4
     returns-4
-    sub-bytes-of
-    part-bytes-of-start
-    part-bytes-of-end
-    bytes-of-requires
+    sub-octets-in
+    part-octets-in-start
+    part-octets-in-end
+    octets-in-requires
     without-bytes-requires-5
     returns-5
     returns-6)

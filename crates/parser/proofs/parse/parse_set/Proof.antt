@@ -1,16 +1,13 @@
 -- What the length and the three fields tell, in the order of the definition.
-use mathlib.Core.Option.{bind}
-use mathlib.Core.Path.{sym, ap, _∙_}
 use borrow.Author.Needs.{needs}
-use borrow.Author.Tests.{eq-eqb, ne-eqb}
-use Rattle.wire.specs.Digits.{octet, word}
+use Rattle.wire.proofs.Ways.{ways}
 use Rattle.messages.specs.Read.{setIn}
 use Rattle.parser.proofs.parse.parse_set.Statement.{statement}
 use Rattle.parser.proofs.parse.parse_set.Tie as tie
 
 returns : tie.Need-returns
-unfolding setIn bind
-returns c bytes = rw (ne-eqb _ _ (c .if1 .taken))
+unfolding setIn
+returns c bytes = search ways depth 20
 
 two-at-requires : tie.Need-two-at-requires
 two-at-requires c κs = search needs
@@ -22,8 +19,8 @@ enum-told : tie.Need-enum-told
 enum-told c = search needs
 
 returns-2 : tie.Need-returns-2
-unfolding setIn bind
-returns-2 c bytes = rw (eq-eqb _ _ (c .before .before .before .if1 .left), sym (c .before .before .two-at .ensures) ∙ ap octet (c .enum-told .given .1))
+unfolding setIn
+returns-2 c bytes = search ways depth 20
 
 two-at-requires-2 : tie.Need-two-at-requires-2
 two-at-requires-2 c κs = search needs
@@ -35,11 +32,8 @@ enum-told-2 : tie.Need-enum-told-2
 enum-told-2 c = search needs
 
 returns-3 : tie.Need-returns-3
-unfolding setIn bind
-returns-3 c bytes =
-    let page = c .before .before .before .before in
-    rw
-    (eq-eqb _ _ (page .before .before .before .if1 .left), sym (page .before .before .two-at .ensures) ∙ ap octet (page .page .given .1), sym (c .before .before .two-at2 .ensures) ∙ ap octet (c .enum-told2 .given .1))
+unfolding setIn
+returns-3 c bytes = search ways depth 20
 
 four-at-requires : tie.Need-four-at-requires
 four-at-requires c κs = search needs
@@ -51,21 +45,12 @@ enum-told-3 : tie.Need-enum-told-3
 enum-told-3 c = search needs
 
 returns-4 : tie.Need-returns-4
-unfolding setIn bind
-returns-4 c bytes =
-    let code = c .before .before .before .before in
-    let page = code .before .before .before .before in
-    rw
-    (eq-eqb _ _ (page .before .before .before .if1 .left), sym (page .before .before .two-at .ensures) ∙ ap octet (page .page .given .1), sym (code .before .before .two-at2 .ensures) ∙ ap octet (code .code .given .1), sym (c .before .before .four-at .ensures) ∙ ap word (c .enum-told3 .given .1))
+unfolding setIn
+returns-4 c bytes = search ways depth 20
 
 returns-5 : tie.Need-returns-5
-unfolding setIn bind
-returns-5 c bytes =
-    let value = c .before in
-    let code = value .before .before .before .before in
-    let page = code .before .before .before .before in
-    rw
-    (eq-eqb _ _ (page .before .before .before .if1 .left), sym (page .before .before .two-at .ensures) ∙ ap octet (page .page .given .1), sym (code .before .before .two-at2 .ensures) ∙ ap octet (code .code .given .1), sym (value .before .before .four-at .ensures) ∙ ap word (value .value .given .1))
+unfolding setIn
+returns-5 c bytes = search ways depth 20
 
 pub parse-set-spec : {M : Type 1} → statement M
 parse-set-spec =

@@ -1,7 +1,6 @@
 -- What `date_in` tells is what the definition takes.
-use mathlib.Core.Path.{sym, ap, _∙_}
 use borrow.Author.Needs.{needs}
-use Rattle.text_fields.specs.View.{dateOf}
+use Rattle.replies.proofs.ReplyLaws.{date-is, date-bad}
 use Rattle.replies.proofs.read.read_date_read_reply.Statement.{statement}
 use Rattle.replies.proofs.read.read_date_read_reply.Tie as tie
 
@@ -15,12 +14,10 @@ enum-told : tie.Need-enum-told
 enum-told c = search needs
 
 returns : tie.Need-returns
-returns c bytes = rw (sym (c .before .before .date-in .ensures) ∙ ap dateOf (c .enum-told .given .1))
+returns c bytes = search date-bad
 
 returns-2 : tie.Need-returns-2
-returns-2 c bytes =
-    let date = c .before in
-    rw (sym (date .before .before .date-in .ensures) ∙ ap dateOf (date .date .given .1))
+returns-2 c bytes = search date-is
 
 pub read-date-read-reply-spec : {M : Type 1} → statement M
 read-date-read-reply-spec =

@@ -1,20 +1,16 @@
 -- The status first, then the date in the rest, as in the definition.
-use mathlib.Core.Option.{bind}
-use mathlib.Core.Path.{sym, ap, _∙_}
 use borrow.Author.Needs.{needs}
-use borrow.Author.Tests.{eq-eqb, ne-eqb}
 use Rattle.messages.specs.Read.{dateWriteReplyIn}
-use Rattle.text_fields.specs.View.{outcomeOf, dateOf}
-use Rattle.text_fields.proofs.TextLaws.{part-rest}
+use Rattle.replies.proofs.ReplyLaws.{ways, date-behind, no-date-behind}
 use Rattle.replies.proofs.read.read_date_write_reply.Statement.{statement}
 use Rattle.replies.proofs.read.read_date_write_reply.Tie as tie
 
 returns : tie.Need-returns
-unfolding dateWriteReplyIn bind
-returns c bytes = rw (ne-eqb _ _ (c .if1 .taken))
+unfolding dateWriteReplyIn
+returns c bytes = search ways
 
-outcome-at-requires : tie.Need-outcome-at-requires
-outcome-at-requires c κs = search needs
+status-at-requires : tie.Need-status-at-requires
+status-at-requires c κs = search needs
 
 enum-known-status : tie.Need-enum-known-status
 enum-known-status c = search needs
@@ -23,8 +19,8 @@ enum-told : tie.Need-enum-told
 enum-told c = search needs
 
 returns-2 : tie.Need-returns-2
-unfolding dateWriteReplyIn bind
-returns-2 c bytes = rw (eq-eqb _ _ (c .before .before .before .if1 .left), sym (c .before .before .outcome-at .ensures) ∙ ap outcomeOf (c .enum-told .given .1))
+unfolding dateWriteReplyIn
+returns-2 c bytes = search ways
 
 sub-date-in : tie.Need-sub-date-in
 sub-date-in c = search needs
@@ -45,24 +41,19 @@ enum-told-2 : tie.Need-enum-told-2
 enum-told-2 c = search needs
 
 returns-3 : tie.Need-returns-3
-unfolding dateWriteReplyIn bind
-returns-3 c bytes =
-    let status = c .before .before .before .before .before in
-    rw (eq-eqb _ _ (status .before .before .before .if1 .left), sym (status .before .before .outcome-at .ensures) ∙ ap outcomeOf (status .status .given .1), ← part-rest 2 (status .before .before .before .before .before .args .text .now), sym (c .before .before .date-in .ensures) ∙ ap dateOf (c .enum-told2 .given .1))
+unfolding dateWriteReplyIn
+returns-3 c bytes = search (ways, no-date-behind)
 
 returns-4 : tie.Need-returns-4
-unfolding dateWriteReplyIn bind
-returns-4 c bytes =
-    let date = c .before in
-    let status = date .before .before .before .before .before in
-    rw (eq-eqb _ _ (status .before .before .before .if1 .left), sym (status .before .before .outcome-at .ensures) ∙ ap outcomeOf (status .status .given .1), ← part-rest 2 (status .before .before .before .before .before .args .text .now), sym (date .before .before .date-in .ensures) ∙ ap dateOf (date .date .given .1))
+unfolding dateWriteReplyIn
+returns-4 c bytes = search (ways, date-behind)
 
 pub read-date-write-reply-spec : {M : Type 1} → statement M
 read-date-write-reply-spec =
     tie.close
     (tie.spec
     returns
-    outcome-at-requires
+    status-at-requires
     enum-known-status
     enum-told
     returns-2

@@ -1,21 +1,21 @@
--- What `bytes_of` tells is what the definition takes.
+-- What `octets_in` tells is what the definition takes.
 use borrow.Author.Needs.{needs}
-use borrow.Author.Tests.{not-true, not-false}
+use Rattle.replies.proofs.ReplyLaws.{octets-good, octets-bad, refusal}
 use Rattle.replies.proofs.read.read_item_reply.Statement.{statement}
 use Rattle.replies.proofs.read.read_item_reply.Tie as tie
 
-bytes-of-requires : tie.Need-bytes-of-requires
-bytes-of-requires c κs = search needs
+octets-in-requires : tie.Need-octets-in-requires
+octets-in-requires c κs = search needs
 
 without-bytes-requires : tie.Need-without-bytes-requires
 without-bytes-requires c κs = search needs
 
 returns : tie.Need-returns
-returns c = rw (← c .before .before .bytes-of .ensures, not-true (c .before .before .bytes-of .result .good) (c .before .if1 .taken), c .without-bytes .ensures)
+returns c = search (octets-bad, refusal)
 
 returns-2 : tie.Need-returns-2
-returns-2 c = rw (← c .before .before .bytes-of .ensures, not-false (c .before .before .bytes-of .result .good) (c .before .if1 .left))
+returns-2 c = search octets-good
 
 pub read-item-reply-spec : {M : Type 1} → statement M
 read-item-reply-spec =
-    tie.close (tie.spec bytes-of-requires without-bytes-requires returns returns-2)
+    tie.close (tie.spec octets-in-requires without-bytes-requires returns returns-2)

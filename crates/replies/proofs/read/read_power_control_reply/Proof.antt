@@ -1,21 +1,16 @@
 -- Status, name and mode one after the other, as in the definition.
-use mathlib.Core.Option.{bind}
-use mathlib.Core.Path.{sym, ap, _∙_}
 use borrow.Author.Needs.{needs}
-use borrow.Author.Tests.{eq-eqb, ne-eqb, not-true, not-false}
-use Rattle.wire.specs.Digits.{word}
 use Rattle.messages.specs.Read.{powerControlReplyIn}
-use Rattle.text_fields.specs.View.{outcomeOf}
-use Rattle.text_fields.proofs.TextLaws.{part-rest}
+use Rattle.replies.proofs.ReplyLaws.{ways}
 use Rattle.replies.proofs.read.read_power_control_reply.Statement.{statement}
 use Rattle.replies.proofs.read.read_power_control_reply.Tie as tie
 
 returns : tie.Need-returns
-unfolding powerControlReplyIn bind
-returns c bytes = rw (ne-eqb _ _ (c .if1 .taken))
+unfolding powerControlReplyIn
+returns c bytes = search ways depth 20
 
-outcome-at-requires : tie.Need-outcome-at-requires
-outcome-at-requires c κs = search needs
+status-at-requires : tie.Need-status-at-requires
+status-at-requires c κs = search needs
 
 enum-known-status : tie.Need-enum-known-status
 enum-known-status c = search needs
@@ -24,8 +19,8 @@ enum-told : tie.Need-enum-told
 enum-told c = search needs
 
 returns-2 : tie.Need-returns-2
-unfolding powerControlReplyIn bind
-returns-2 c bytes = rw (eq-eqb _ _ (c .before .before .before .if1 .left), sym (c .before .before .outcome-at .ensures) ∙ ap outcomeOf (c .enum-told .given .1))
+unfolding powerControlReplyIn
+returns-2 c bytes = search ways depth 20
 
 slice-aggregate-begins-with : tie.Need-slice-aggregate-begins-with
 slice-aggregate-begins-with c = search needs
@@ -43,10 +38,8 @@ begins-with-requires : tie.Need-begins-with-requires
 begins-with-requires c κs = search needs
 
 returns-3 : tie.Need-returns-3
-unfolding powerControlReplyIn bind
-returns-3 c bytes =
-    let status = c .before .before .before .before .before in
-    rw (eq-eqb _ _ (status .before .before .before .if1 .left), sym (status .before .before .outcome-at .ensures) ∙ ap outcomeOf (status .status .given .1), ← part-rest 2 (status .before .before .before .before .before .args .text .now), sym (c .before .begins-with .ensures) ∙ not-true (c .before .begins-with .result) (c .if2 .taken))
+unfolding powerControlReplyIn
+returns-3 c bytes = search ways depth 20
 
 four-at-requires : tie.Need-four-at-requires
 four-at-requires c κs = search needs
@@ -58,24 +51,19 @@ enum-told-2 : tie.Need-enum-told-2
 enum-told-2 c = search needs
 
 returns-4 : tie.Need-returns-4
-unfolding powerControlReplyIn bind
-returns-4 c bytes =
-    let status = c .before .before .before .before .before .before .before .before in
-    rw (eq-eqb _ _ (status .before .before .before .if1 .left), sym (status .before .before .outcome-at .ensures) ∙ ap outcomeOf (status .status .given .1), ← part-rest 2 (status .before .before .before .before .before .args .text .now), sym (c .before .before .before .before .begins-with .ensures) ∙ not-false (c .before .before .before .before .begins-with .result) (c .before .before .before .if2 .left), sym (c .before .before .four-at .ensures) ∙ ap word (c .enum-told2 .given .1))
+unfolding powerControlReplyIn
+returns-4 c bytes = search ways depth 20
 
 returns-5 : tie.Need-returns-5
-unfolding powerControlReplyIn bind
-returns-5 c bytes =
-    let mode = c .before in
-    let status = mode .before .before .before .before .before .before .before .before in
-    rw (eq-eqb _ _ (status .before .before .before .if1 .left), sym (status .before .before .outcome-at .ensures) ∙ ap outcomeOf (status .status .given .1), ← part-rest 2 (status .before .before .before .before .before .args .text .now), sym (mode .before .before .before .before .begins-with .ensures) ∙ not-false (mode .before .before .before .before .begins-with .result) (mode .before .before .before .if2 .left), sym (mode .before .before .four-at .ensures) ∙ ap word (mode .mode .given .1))
+unfolding powerControlReplyIn
+returns-5 c bytes = search ways depth 20
 
 pub read-power-control-reply-spec : {M : Type 1} → statement M
 read-power-control-reply-spec =
     tie.close
     (tie.spec
     returns
-    outcome-at-requires
+    status-at-requires
     enum-known-status
     enum-told
     returns-2

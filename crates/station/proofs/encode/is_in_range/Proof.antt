@@ -1,6 +1,6 @@
 -- A power control and a date write are judged by their own tests; every other request is in range.
 use borrow.Author.Needs.{needs}
-use Rattle.station.proofs.Laws.{others-in-range}
+use Rattle.station.proofs.Laws.{mode-range, date-range, others-range}
 use Rattle.station.proofs.encode.is_in_range.Statement.{statement}
 use Rattle.station.proofs.encode.is_in_range.Tie as tie
 
@@ -8,7 +8,7 @@ enum-known-request : tie.Need-enum-known-request
 enum-known-request c = search needs
 
 returns : tie.Need-returns
-returns c bytes = rw (c .before .request .given .1)
+returns c = search mode-range
 
 enum-known-request-2 : tie.Need-enum-known-request-2
 enum-known-request-2 c = search needs
@@ -17,10 +17,10 @@ is-accepted-requires : tie.Need-is-accepted-requires
 is-accepted-requires c κs = search needs
 
 returns-2 : tie.Need-returns-2
-returns-2 c bytes = rw (c .before .before .request2 .given .1) (c .is-accepted .ensures)
+returns-2 c = search date-range
 
 returns-3 : tie.Need-returns-3
-returns-3 c bytes = others-in-range (c .before .args .request) bytes (c .before .pre) (c .match .keys3)
+returns-3 c = search others-range
 
 pub is-in-range-spec : {M : Type 1} → statement M
 is-in-range-spec =

@@ -17,10 +17,7 @@ same-length : tie.Need-same-length
 same-length c = search needs
 
 returns : tie.Need-returns
-returns c =
-    let encoded = c .before .before .before .before in
-    let asked = encoded .before .before in
-    rw (← asked .destination .ensures) (exported (encoded .encode-request .ensures) (c .tell .ensures))
+returns c = search exported
 
 pub export-spec : {M : Type 1} → statement M
 export-spec =

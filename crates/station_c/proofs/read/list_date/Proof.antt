@@ -1,7 +1,33 @@
 -- The date's numbers are those of the definition, filled up with zeros.
 use borrow.Author.Needs.{needs}
+use mathlib.Core.List.{List, [], _∷_}
+use mathlib.Core.Path.{_≡_}
+use Prim.Native.Nat.{ℕ}
+use lib.ListN.{getD}
+use Rattle.messages.specs.View.{statusNumber, dateAnswerOf}
+use Rattle.messages.specs.declared.message.Date.{Date}
+use Rattle.messages.specs.declared.message.DateAnswer.{DateAnswer}
+use Rattle.messages.specs.declared.message.Status.{Status}
+use Rattle.station_c.specs.Read.{replyKind, numbersOf, dateNumbers}
+use Rattle.station_c.specs.Inner.{listing}
+use Rattle.station_c.specs.declared.read.Listed.{Listed}
 use Rattle.station_c.proofs.read.list_date.Statement.{statement}
 use Rattle.station_c.proofs.read.list_date.Tie as tie
+
+-- the seven numbers of a list, and what follows them
+abbrev seven : List ℕ → List ℕ → List ℕ
+seven n rest = getD n 0 0 ∷ getD n 1 0 ∷ getD n 2 0 ∷ getD n 3 0 ∷ getD n 4 0 ∷ getD n 5 0 ∷ getD n 6 0 ∷ rest
+
+module _ (id : ℕ) (a : DateAnswer) (d : Date) (n : List ℕ) (numbers : n ≡ dateNumbers d) where
+  abbrev dateListing : Listed
+  dateListing = listing (replyKind (dateAnswerOf a)) (id ∷ numbersOf (dateAnswerOf a)) 0
+
+  read-listed : a ≡ DateAnswer.Read d → record { kind = 106; count = 8; numbers = id ∷ seven n (0 ∷ []); beside = 0 } ≡ dateListing
+  read-listed e = rw (numbers, e)
+
+  written-listed : (s : Status) (result : ℕ) → a ≡ DateAnswer.Written s d → result ≡ statusNumber s
+      → record { kind = 107; count = 9; numbers = id ∷ result ∷ seven n []; beside = 0 } ≡ dateListing
+  written-listed s result e q = rw (numbers, q, e)
 
 enum-known-answer : tie.Need-enum-known-answer
 enum-known-answer c = search needs
@@ -31,40 +57,43 @@ array-read-t30 : tie.Need-array-read-t30
 array-read-t30 c = search needs
 
 returns : tie.Need-returns
-returns c = rw (c .date-numbers .ensures, c .before .before .answer .given .1)
+returns c = search read-listed
 
 enum-known-answer-2 : tie.Need-enum-known-answer-2
 enum-known-answer-2 c = search needs
 
-outcome-number-requires : tie.Need-outcome-number-requires
-outcome-number-requires c κs = search needs
+number-requires : tie.Need-number-requires
+number-requires c κs = search needs
+
+cast-number : tie.Need-cast-number
+cast-number c = search needs
 
 date-numbers-requires-2 : tie.Need-date-numbers-requires-2
 date-numbers-requires-2 c κs = search needs
 
-array-read-t35 : tie.Need-array-read-t35
-array-read-t35 c = search needs
+array-read-t36 : tie.Need-array-read-t36
+array-read-t36 c = search needs
 
-array-read-t38 : tie.Need-array-read-t38
-array-read-t38 c = search needs
+array-read-t39 : tie.Need-array-read-t39
+array-read-t39 c = search needs
 
-array-read-t41 : tie.Need-array-read-t41
-array-read-t41 c = search needs
+array-read-t42 : tie.Need-array-read-t42
+array-read-t42 c = search needs
 
-array-read-t44 : tie.Need-array-read-t44
-array-read-t44 c = search needs
+array-read-t45 : tie.Need-array-read-t45
+array-read-t45 c = search needs
 
-array-read-t47 : tie.Need-array-read-t47
-array-read-t47 c = search needs
+array-read-t48 : tie.Need-array-read-t48
+array-read-t48 c = search needs
 
-array-read-t50 : tie.Need-array-read-t50
-array-read-t50 c = search needs
+array-read-t51 : tie.Need-array-read-t51
+array-read-t51 c = search needs
 
-array-read-t53 : tie.Need-array-read-t53
-array-read-t53 c = search needs
+array-read-t54 : tie.Need-array-read-t54
+array-read-t54 c = search needs
 
 returns-2 : tie.Need-returns-2
-returns-2 c = rw (c .date-numbers2 .ensures, c .before .outcome-number .ensures, c .before .before .before .answer2 .given .1)
+returns-2 c = search written-listed
 
 pub list-date-spec : {M : Type 1} → statement M
 list-date-spec =
@@ -81,13 +110,14 @@ list-date-spec =
     array-read-t30
     returns
     enum-known-answer-2
-    outcome-number-requires
+    number-requires
+    cast-number
     date-numbers-requires-2
-    array-read-t35
-    array-read-t38
-    array-read-t41
-    array-read-t44
-    array-read-t47
-    array-read-t50
-    array-read-t53
+    array-read-t36
+    array-read-t39
+    array-read-t42
+    array-read-t45
+    array-read-t48
+    array-read-t51
+    array-read-t54
     returns-2)

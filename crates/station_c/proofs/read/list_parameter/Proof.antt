@@ -3,8 +3,11 @@ use borrow.Author.Needs.{needs}
 use Rattle.station_c.proofs.read.list_parameter.Statement.{statement}
 use Rattle.station_c.proofs.read.list_parameter.Tie as tie
 
-outcome-number-requires : tie.Need-outcome-number-requires
-outcome-number-requires c κs = search needs
+number-requires : tie.Need-number-requires
+number-requires c κs = search needs
+
+cast-result : tie.Need-cast-result
+cast-result c = search needs
 
 cast-page : tie.Need-cast-page
 cast-page c = search needs
@@ -16,8 +19,8 @@ cast-operation : tie.Need-cast-operation
 cast-operation c = search needs
 
 returns : tie.Need-returns
-returns c = rw (c .before .before .before .outcome-number .ensures)
+returns c = cc
 
 pub list-parameter-spec : {M : Type 1} → statement M
 list-parameter-spec =
-    tie.close (tie.spec outcome-number-requires cast-page cast-code cast-operation returns)
+    tie.close (tie.spec number-requires cast-result cast-page cast-code cast-operation returns)

@@ -3,11 +3,14 @@ use borrow.Author.Needs.{needs}
 use Rattle.station_c.proofs.read.list_tag.Statement.{statement}
 use Rattle.station_c.proofs.read.list_tag.Tie as tie
 
-outcome-number-requires : tie.Need-outcome-number-requires
-outcome-number-requires c κs = search needs
+number-requires : tie.Need-number-requires
+number-requires c κs = search needs
+
+cast-number : tie.Need-cast-number
+cast-number c = search needs
 
 returns : tie.Need-returns
-returns c = rw (c .outcome-number .ensures)
+returns c = rw (c .number .ensures)
 
 pub list-tag-spec : {M : Type 1} → statement M
-list-tag-spec = tie.close (tie.spec outcome-number-requires returns)
+list-tag-spec = tie.close (tie.spec number-requires cast-number returns)

@@ -1,48 +1,43 @@
--- The count, or the length of the item where that is less, takes the same bytes of it.
-use borrow.Author.Needs.{needs}
+-- The bytes that are there are those that are counted.
 use mathlib.Core.List.{List, []}
-use mathlib.Core.Logic.{⊎-elim}
-use mathlib.Core.Path.{_≡_, refl, sym, _∙_}
-use Prim.Native.Nat.{ℕ, _≤_}
+use mathlib.Core.Path.{_≡_, refl, sym, ap, _∙_}
+use Prim.Native.Nat.{ℕ, _+_, _≤_}
 use native.Mathlib.Omega.{arith}
-use lib.ListN.{length, take, length-take}
-use lib.Seq.{paste, take-all, length-take-le}
+use lib.ListN.{length, take}
+use lib.Seq.{paste, length-take-le}
 use Rattle.wire.specs.Packet.{over}
 use Rattle.wire.proofs.PacketLaws.{over-paste}
+use Rattle.station_c.specs.Inner.{PutsItem}
+use borrow.Author.Needs.{needs}
 use Rattle.station_c.proofs.read.put_item.Statement.{statement}
 use Rattle.station_c.proofs.read.put_item.Tie as tie
 
-from-start : (o t : List ℕ) → paste o 0 t (length t) ≡ over t o
-unfolding over
-from-start o t = over-paste [] o 0 refl t
+module _ (item out : List ℕ) (n : ℕ) (there : n ≤ length item) where
+  item-room : length item ≤ length out → 0 + length (take n item) ≤ length out
+  item-room h = rw (length-take-le n item there) (omega arith)
 
-module _ (j : tie.Joined1) where
-  n-there : j .if1 .n ≤ length (j .before .before .before .args .item .now)
-  n-there = ⊎-elim (λ w. omega arith) (λ w. omega arith) (j .if1 .came)
+  item-put : (count : ℕ) (after : List ℕ) → after ≡ paste out 0 (take n item) (length (take n item)) → take n item ≡ take count item
+      → PutsItem count item n out after
+  unfolding over
+  item-put count after p e =
+      record { there = sym (length-take-le n item there) ∙ ap length e; put = rw (← e) (p ∙ over-paste [] out 0 refl (take n item)) }
 
-  n-same : let a = j .before .before .before .args in take (j .if1 .n) (a .item .now) ≡ take (a .count) (a .item .now)
-  n-same =
-      let a = j .before .before .before .args in
-      ⊎-elim (λ w. rw (take-all (j .if1 .n) (a .item .now) (omega arith), take-all (a .count) (a .item .now) (omega arith))) (λ w. rw (w .1)) (j .if1 .came)
+counted-requires : tie.Need-counted-requires
+counted-requires c κs = search needs
 
 slice-aggregate-put-bytes : tie.Need-slice-aggregate-put-bytes
-slice-aggregate-put-bytes c = sym (length-take-le _ _ (n-there (c .before .before)))
+slice-aggregate-put-bytes c = search (needs, length-take-le)
 
 put-bytes-requires : tie.Need-put-bytes-requires
-put-bytes-requires c κs =
-    let h = n-there (c .before .before) in
-    simp length-take (omega arith)
+put-bytes-requires c κs = search item-room
 
 same-length : tie.Need-same-length
 same-length c = search needs
 
 returns : tie.Need-returns
-returns c =
-    let joined = c .before .before .before .before .before in
-    let a = joined .before .before .before .args in
-    let t = take (joined .if1 .n) (a .item .now) in
-    rw (← n-same joined) (sym (length-take-le _ _ (n-there joined)), c .before .before .put-bytes .ensures ∙ from-start (a .out .now) t)
+returns c = search item-put
 
 pub put-item-spec : {M : Type 1} → statement M
 put-item-spec =
-    tie.close (tie.spec slice-aggregate-put-bytes put-bytes-requires same-length returns)
+    tie.close
+    (tie.spec counted-requires slice-aggregate-put-bytes put-bytes-requires same-length returns)

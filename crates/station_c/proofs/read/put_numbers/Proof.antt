@@ -1,25 +1,52 @@
 -- After i turns the first i numbers stand at the start, and each turn puts one more behind them.
-use Prim.Native.Nat.{_-_, _<_, _≤_}
+use mathlib.Core.List.{List}
+use Prim.Native.Nat.{ℕ, _+_, _-_, _<_, _≤_}
 use mathlib.Core.Path.{_≡_, refl, _∙_}
 use native.Mathlib.Omega.{arith}
 use native.Mathlib.Numerals.{add-one}
-use lib.ListN.{length, take, getD, length-set}
+use lib.ListN.{length, take, getD, set, length-set}
 use lib.Seq.{take-suc, length-take-le}
 use Rattle.wire.specs.Packet.{over}
 use Rattle.wire.proofs.PacketLaws.{over-set}
 use Rattle.station_c.proofs.read.put_numbers.Statement.{statement}
 use Rattle.station_c.proofs.read.put_numbers.Tie as tie
 
+record Puts (numbers : List ℕ) (count : ℕ) (out₀ out : List ℕ) (i : ℕ) : Type 0 where
+  within : i ≤ count
+  there : count ≤ length numbers
+  room : length numbers ≤ length out₀
+  kept : length out ≡ length out₀
+  front : out ≡ over (take i numbers) out₀
+
+module _ (numbers : List ℕ) (count : ℕ) (out₀ : List ℕ) where
+  none-put : count ≤ length numbers → length numbers ≤ length out₀ → Puts numbers count out₀ out₀ 0
+  unfolding over
+  none-put h k = record { within = omega arith; there = h; room = k; kept = refl; front = refl }
+
+  module _ (out : List ℕ) (i : ℕ) (p : Puts numbers count out₀ out i) where
+    one-more : i < count → Puts numbers count out₀ (set out i (getD numbers i 0)) (i + 1)
+    one-more h =
+        let k : i < length numbers = omega arith in
+        let sized : length (take i numbers) ≡ i = length-take-le i numbers (omega arith) in
+        record {
+          within = omega arith;
+          there = p .there;
+          room = p .room;
+          kept = simp length-set (p .kept);
+          front = rw (p .front, add-one, take-suc numbers i 0 k) (over-set (take i numbers) out₀ i sized (getD numbers i 0) (omega arith));
+        }
+
+    all-put : count ≤ i → out ≡ over (take count numbers) out₀
+    all-put h = let e : i ≡ count = omega (arith, p .within) in p .front ∙ rw e
+
 abbrev Inv-loop : tie.InvT-loop
-Inv-loop out₀ numbers count i₀ out i =
-    (i ≤ count) × (count ≤ length numbers) × (length numbers ≤ length out₀) × (length out ≡ length out₀) × (out ≡ over (take i numbers) out₀)
+Inv-loop out₀ numbers count i₀ out i = Puts numbers count out₀ out i
 
 abbrev μ-loop : tie.MeasureT-loop
 μ-loop out₀ numbers count i₀ out i = count - i
 
 loop-holds : tie.Need-loop-holds Inv-loop μ-loop
-unfolding over
-loop-holds c = (omega arith, c .pre .0, c .pre .1, refl, refl)
+loop-holds c = search none-put
 
 mul-out : tie.Need-mul-out Inv-loop μ-loop
 mul-out c = omega arith
@@ -40,27 +67,13 @@ loop-less : tie.Need-loop-less Inv-loop μ-loop
 loop-less c = omega arith
 
 loop-again : tie.Need-loop-again Inv-loop μ-loop
-loop-again c =
-    let a = c .before .before .before .args in
-    let o = a .out .now in
-    let s = a .numbers .now in
-    let i = c .before .before .loop .i in
-    let h : i < length o = omega arith in
-    let k : i < length s = omega arith in (
-      omega arith,
-      omega arith,
-      omega arith,
-      simp length-set (omega arith),
-      rw (c .before .before .loop .inv .4, add-one, take-suc s i 0 k, over-set (take i s) o i (length-take-le i s (omega arith)) (getD s i 0) h),
-    )
+loop-again c = search one-more
 
 same-length : tie.Need-same-length Inv-loop μ-loop
 same-length c = omega arith
 
 returns : tie.Need-returns Inv-loop μ-loop
-returns c =
-    let e : c .before .loop .i ≡ c .before .before .args .count = omega arith in
-    c .before .loop .inv .4 ∙ rw e
+returns c = search all-put
 
 pub put-numbers-spec : {M : Type 1} → statement M
 put-numbers-spec =

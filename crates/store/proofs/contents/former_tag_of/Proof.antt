@@ -4,12 +4,12 @@ use Rattle.store.specs.Contents.{formerTagOf}
 use Rattle.store.proofs.contents.former_tag_of.Statement.{statement}
 use Rattle.store.proofs.contents.former_tag_of.Tie as tie
 
-text-at-requires : tie.Need-text-at-requires
-text-at-requires c κs = search needs
+item-at-requires : tie.Need-item-at-requires
+item-at-requires c κs = search needs
 
 returns : tie.Need-returns
 unfolding formerTagOf
-returns c = c .text-at .ensures
+returns c = c .item-at .ensures
 
 pub former-tag-of-spec : {M : Type 1} → statement M
-former-tag-of-spec = tie.close (tie.spec text-at-requires returns)
+former-tag-of-spec = tie.close (tie.spec item-at-requires returns)

@@ -1,6 +1,6 @@
 -- It is the change of one field.
 use borrow.Author.Needs.{needs}
-use Rattle.store.specs.Layout.{fieldStores}
+use Rattle.store.specs.Fields.{fieldStores}
 use Rattle.store.proofs.contents.power_stores.Statement.{statement}
 use Rattle.store.proofs.contents.power_stores.Tie as tie
 

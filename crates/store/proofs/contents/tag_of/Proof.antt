@@ -4,12 +4,12 @@ use Rattle.store.specs.Contents.{tagOf}
 use Rattle.store.proofs.contents.tag_of.Statement.{statement}
 use Rattle.store.proofs.contents.tag_of.Tie as tie
 
-text-at-requires : tie.Need-text-at-requires
-text-at-requires c κs = search needs
+item-at-requires : tie.Need-item-at-requires
+item-at-requires c κs = search needs
 
 returns : tie.Need-returns
 unfolding tagOf
-returns c = c .text-at .ensures
+returns c = c .item-at .ensures
 
 pub tag-of-spec : {M : Type 1} → statement M
-tag-of-spec = tie.close (tie.spec text-at-requires returns)
+tag-of-spec = tie.close (tie.spec item-at-requires returns)

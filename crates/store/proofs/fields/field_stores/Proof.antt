@@ -1,37 +1,27 @@
--- The field is stored in a copy of the first 12 bytes, and the bytes around it are copied from there.
+-- The bytes that have a bit of the field are the only ones of the plan.
 use borrow.Author.Needs.{needs}
 use mathlib.Core.List.{List, [], _++_}
 use mathlib.Core.Path.{_≡_, _∙_}
-use Prim.Native.Nat.{ℕ, _+_, _/_, _≤_}
-use native.Mathlib.Omega.{arith}
-use lib.ListN.{take}
-use Rattle.bitfield.specs.Field.{putField}
-use Rattle.plan.specs.Stores.{Entry, copied}
-use Rattle.store.specs.Layout.{bytesAround}
-use Rattle.store.proofs.FieldLaws.{put-in-first, copied-of-first, only}
+use Prim.Native.Nat.{ℕ, _-_}
+use native.Mathlib.Nat.{sub-zero}
+use lib.ListN.{take, drop}
+use Rattle.plan.specs.Stores.{Entry, rangeOf}
+use Rattle.store.proofs.FieldLaws.{only}
 use Rattle.store.proofs.fields.field_stores.Statement.{statement}
 use Rattle.store.proofs.fields.field_stores.Tie as tie
 
-field-way : (m : List ℕ) (at width v : ℕ) {h g : List ℕ} {es r : List Entry} → at + width ≤ 96
-    → h ≡ take 12 m → g ≡ putField h at width v → es ≡ [] → r ≡ es ++ copied (at / 8) ((at + width + 7) / 8) g
-    → r ≡ bytesAround at width (putField m at width v)
-field-way m at width v l p q e f =
-    only e f ∙ copied-of-first (at / 8) ((at + width + 7) / 8) 12 (putField m at width v) (omega arith) (omega arith) (put-in-first 12 m at width v l p q)
+range-stored : (p n : ℕ) (bs cs : List ℕ) {es r : List Entry} → es ≡ [] → r ≡ es ++ rangeOf p (take (n - 0) (drop 0 bs)) → take n bs ≡ cs
+    → r ≡ rangeOf p cs
+range-stored p n bs cs e f g = only e f ∙ rw (sub-zero n, g)
 
-head-of-requires : tie.Need-head-of-requires
-head-of-requires c κs = search needs
+bytes-around-requires : tie.Need-bytes-around-requires
+bytes-around-requires c κs = search needs
 
-slice-aggregate-put : tie.Need-slice-aggregate-put
-slice-aggregate-put c = search needs
+add-end : tie.Need-add-end
+add-end c = search needs
 
-put-requires : tie.Need-put-requires
-put-requires c κs = search needs
-
-add-e : tie.Need-add-e
-add-e c = search needs
-
-add-e-2 : tie.Need-add-e-2
-add-e-2 c = search needs
+add-end-2 : tie.Need-add-end-2
+add-end-2 c = search needs
 
 empty-requires : tie.Need-empty-requires
 empty-requires c κs = search needs
@@ -41,6 +31,9 @@ cast-with-range c = search needs
 
 sub-with-range : tie.Need-sub-with-range
 sub-with-range c = search needs
+
+sub-with-range-2 : tie.Need-sub-with-range-2
+sub-with-range-2 c = search needs
 
 part-with-range-start : tie.Need-part-with-range-start
 part-with-range-start c = search needs
@@ -52,20 +45,19 @@ with-range-requires : tie.Need-with-range-requires
 with-range-requires c κs = search needs
 
 returns : tie.Need-returns
-returns c = search (field-way, needs)
+returns c = search range-stored
 
 pub field-stores-spec : {M : Type 1} → statement M
 field-stores-spec =
     tie.close
     (tie.spec
-    head-of-requires
-    slice-aggregate-put
-    put-requires
-    add-e
-    add-e-2
+    bytes-around-requires
+    add-end
+    add-end-2
     empty-requires
     cast-with-range
     sub-with-range
+    sub-with-range-2
     part-with-range-start
     part-with-range-end
     with-range-requires

@@ -7,7 +7,8 @@ use mathlib.Core.Path.{_≡_, sym, _∙_}
 use Prim.Native.Nat.{ℕ}
 use native.Mathlib.Omega.{arith}
 use Rattle.bitfield.proofs.Laws.{get-lt}
-use Rattle.store.specs.Layout.{power, settingFields, dateFields, lengthFields, read, fits, allFit, fieldsInRange}
+use Rattle.store.specs.Fields.{read, fits, allFit}
+use Rattle.store.specs.Layout.{power, settingFields, dateFields, lengthFields, fieldsInRange}
 use Rattle.store.proofs.FieldLaws.{and-same, fit-append}
 use Rattle.store.proofs.fields.fields_in_range.Statement.{statement}
 use Rattle.store.proofs.fields.fields_in_range.Tie as tie
@@ -31,8 +32,8 @@ module _ (m : List ℕ) where
       all-in : (l : Bool) → l ≡ allFit m lengthFields → not b ≡ false → l ≡ fieldsInRange m
       all-in l lengths e = lengths ∙ sym (groups ∙ rw (← settings, not-false a in-settings, ← date, not-false b e))
 
-settings-in-range-requires : tie.Need-settings-in-range-requires
-settings-in-range-requires c κs = search needs
+in-range-requires : tie.Need-in-range-requires
+in-range-requires c κs = search needs
 
 returns : tie.Need-returns
 returns c = search settings-out
@@ -53,7 +54,7 @@ pub fields-in-range-spec : {M : Type 1} → statement M
 fields-in-range-spec =
     tie.close
     (tie.spec
-    settings-in-range-requires
+    in-range-requires
     returns
     date-in-range-requires
     returns-2

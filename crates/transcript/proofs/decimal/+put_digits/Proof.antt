@@ -1,12 +1,11 @@
--- The digits but the last are those of the tenth part, written by the call, and the last one goes behind them; the measure is how many digits may be written.
+-- The digits but the last are those of the tenth part, written by the call, and the last one goes behind them. The measure is how many
+-- digits may be written.
 use native.Mathlib.Omega.{arith}
-use Prim.Native.Nat.{ℕ, _-_, _/_, _<_}
+use Prim.Native.Nat.{ℕ, _<_}
 use lib.ListN.{length-set}
-use lib.Seq.{paste-zero}
 use borrow.Fn.Kinds.{In}
 use borrow.Fn.PlainCycle.{Measures, is, falls, and}
-use Rattle.transcript.specs.Transcript.{digitsWithin}
-use Rattle.transcript.proofs.DecimalLaws.{digits-few, one-written, more-written}
+use Rattle.transcript.proofs.DecimalLaws.{none-written, one-written, more-written}
 use Rattle.transcript.proofs.decimal.put_digits.Reads as put-digits
 use Rattle.transcript.proofs.decimal.put_digits.Kinds as put-digits-kinds
 use Rattle.transcript.proofs.decimal.+put_digits.Lts-put_digits as put-digits-lts
@@ -25,104 +24,50 @@ abbrev put-digits-below : ℕ → In 1 put-digits-kinds.ps
 put-digits-below t =
     and 1 put-digits-kinds.ps (falls 1 put-digits-kinds.ps _<_ μ-put-digits t) put-digits.Pre
 
-put-digits-returns :
-    (t : ℕ) →
-    put-digits-lts.Need-returns
-    (put-digits-below t, put-digits.Post)
-    (put-digits-at t)
-    put-digits.Post
-unfolding digitsWithin
-put-digits-returns t c = let a = c .before .before .args in rw (c .if1 .taken) (omega arith, paste-zero _ (a .at) (digitsWithin 0 (a .n)))
+abbrev claims : ℕ → put-digits-lts.Claims
+claims t = (put-digits-below t, put-digits.Post)
 
-put-digits-cast-digit : (t : ℕ) → put-digits-lts.Need-cast-digit (
-  put-digits-below t,
-  put-digits.Post,
-) (put-digits-at t) put-digits.Post
+put-digits-returns : (t : ℕ) → put-digits-lts.Need-returns (claims t) (put-digits-at t) put-digits.Post
+put-digits-returns t c = (search none-written, omega arith)
+
+put-digits-cast-digit : (t : ℕ) → put-digits-lts.Need-cast-digit (claims t) (put-digits-at t) put-digits.Post
 put-digits-cast-digit t c = omega arith
 
-put-digits-add-digit : (t : ℕ) → put-digits-lts.Need-add-digit (
-  put-digits-below t,
-  put-digits.Post,
-) (put-digits-at t) put-digits.Post
+put-digits-add-digit : (t : ℕ) → put-digits-lts.Need-add-digit (claims t) (put-digits-at t) put-digits.Post
 put-digits-add-digit t c = omega arith
 
-put-digits-slice-write-out : (t : ℕ) → put-digits-lts.Need-slice-write-out (
-  put-digits-below t,
-  put-digits.Post,
-) (put-digits-at t) put-digits.Post
+put-digits-slice-write-out : (t : ℕ) → put-digits-lts.Need-slice-write-out (claims t) (put-digits-at t) put-digits.Post
 put-digits-slice-write-out t c = omega arith
 
-put-digits-add-result : (t : ℕ) → put-digits-lts.Need-add-result (
-  put-digits-below t,
-  put-digits.Post,
-) (put-digits-at t) put-digits.Post
+put-digits-add-result : (t : ℕ) → put-digits-lts.Need-add-result (claims t) (put-digits-at t) put-digits.Post
 put-digits-add-result t c = omega arith
 
-put-digits-same-length : (t : ℕ) → put-digits-lts.Need-same-length (
-  put-digits-below t,
-  put-digits.Post,
-) (put-digits-at t) put-digits.Post
+put-digits-same-length : (t : ℕ) → put-digits-lts.Need-same-length (claims t) (put-digits-at t) put-digits.Post
 put-digits-same-length t c = simp length-set
 
-put-digits-returns-2 : (t : ℕ) → put-digits-lts.Need-returns-2 (
-  put-digits-below t,
-  put-digits.Post,
-) (put-digits-at t) put-digits.Post
-put-digits-returns-2 t c =
-    let start = c .before .before .before in
-    let a = start .args in
-    one-written (a .out .now) (a .at) (a .most) (a .n) (start .pre .1) (c .before .if1 .left) (omega arith)
+put-digits-returns-2 : (t : ℕ) → put-digits-lts.Need-returns-2 (claims t) (put-digits-at t) put-digits.Post
+put-digits-returns-2 t c = (search one-written, omega arith)
 
-put-digits-sub-put-digits : (t : ℕ) → put-digits-lts.Need-sub-put-digits (
-  put-digits-below t,
-  put-digits.Post,
-) (put-digits-at t) put-digits.Post
+put-digits-sub-put-digits : (t : ℕ) → put-digits-lts.Need-sub-put-digits (claims t) (put-digits-at t) put-digits.Post
 put-digits-sub-put-digits t c = omega arith
 
-put-digits-put-digits-requires : (t : ℕ) → put-digits-lts.Need-put-digits-requires (
-  put-digits-below t,
-  put-digits.Post,
-) (put-digits-at t) put-digits.Post
+put-digits-put-digits-requires : (t : ℕ) → put-digits-lts.Need-put-digits-requires (claims t) (put-digits-at t) put-digits.Post
 put-digits-put-digits-requires t c κs = (omega arith, omega arith)
 
-put-digits-slice-write-out-2 : (t : ℕ) → put-digits-lts.Need-slice-write-out-2 (
-  put-digits-below t,
-  put-digits.Post,
-) (put-digits-at t) put-digits.Post
-put-digits-slice-write-out-2 t c =
-    let a = c .before .before .before .before .before .before .before .args in
-    omega (arith, digits-few (a .most - 1) (a .n / 10))
+put-digits-slice-write-out-2 : (t : ℕ) → put-digits-lts.Need-slice-write-out-2 (claims t) (put-digits-at t) put-digits.Post
+put-digits-slice-write-out-2 t c = omega arith
 
-put-digits-add-result-2 : (t : ℕ) → put-digits-lts.Need-add-result-2 (
-  put-digits-below t,
-  put-digits.Post,
-) (put-digits-at t) put-digits.Post
-put-digits-add-result-2 t c =
-    let a = c .before .before .before .before .before .before .before .args in
-    omega (arith, digits-few (a .most - 1) (a .n / 10))
+put-digits-add-result-2 : (t : ℕ) → put-digits-lts.Need-add-result-2 (claims t) (put-digits-at t) put-digits.Post
+put-digits-add-result-2 t c = omega arith
 
-put-digits-same-length-2 : (t : ℕ) → put-digits-lts.Need-same-length-2 (
-  put-digits-below t,
-  put-digits.Post,
-) (put-digits-at t) put-digits.Post
+put-digits-same-length-2 : (t : ℕ) → put-digits-lts.Need-same-length-2 (claims t) (put-digits-at t) put-digits.Post
 put-digits-same-length-2 t c = simp length-set (omega arith)
 
-put-digits-returns-3 : (t : ℕ) → put-digits-lts.Need-returns-3 (
-  put-digits-below t,
-  put-digits.Post,
-) (put-digits-at t) put-digits.Post
-put-digits-returns-3 t c =
-    let called = c .before .before .put-digits in
-    let start = c .before .before .before .before .before .before .before in
-    let a = start .args in
-    more-written (a .out .now) (a .at) (a .most) (a .n) (start .pre .1) (c .before .before .before .before .before .if1 .left) _ _
-    (omega arith) (called .ensures)
+put-digits-returns-3 : (t : ℕ) → put-digits-lts.Need-returns-3 (claims t) (put-digits-at t) put-digits.Post
+put-digits-returns-3 t c = (search more-written, omega arith)
 
 pub +put-digits-spec : {M : Type 1} → statement M
-+put-digits-spec = close μ-put-digits λ t. put-digits-lts.spec (
-  put-digits-below t,
-  put-digits.Post,
-)
++put-digits-spec = close μ-put-digits λ t. put-digits-lts.spec (claims t)
     (put-digits-at t)
     put-digits.Post
     (put-digits-returns t)

@@ -1,25 +1,52 @@
 -- After i turns the board has made i steps.
-use Prim.Native.Nat.{_-_, _≤_}
-use mathlib.Core.Path.{_≡_, refl}
+use Prim.Native.Nat.{ℕ, _+_, _-_, _≤_, _<_}
+use mathlib.Core.Path.{_≡_, refl, _∙_}
 use native.Mathlib.Omega.{arith}
+use native.Mathlib.Numerals.{add-one}
 use borrow.Author.Needs.{needs}
 use lib.ListN.{length}
+use Rattle.calls.specs.Calls.{onStep}
+use Rattle.board.specs.BoardKind.{boardKind}
+use Rattle.packets.specs.View.{Result, result}
 use Rattle.board.specs.View.{gave}
-use Rattle.transcript.specs.Transcript.{stepped}
-use Rattle.transcript.proofs.FeedLaws.{one-step-more}
+use Rattle.transcript.specs.Transcript.{afterSteps}
 use Rattle.transcript.proofs.feed.run_erase.Statement.{statement}
 use Rattle.transcript.proofs.feed.run_erase.Tie as tie
 
+-- what is left after i steps
+record Stepped (start now : Result) (i : ℕ) : Type 0 where
+  within : i ≤ 128
+  store-kept : length (now .store) ≡ length (start .store)
+  buffer-kept : length (now .buffer) ≡ length (start .buffer)
+  stepped : now ≡ afterSteps i start
+
+no-step : (start : Result) → Stepped start start 0
+unfolding afterSteps
+no-step start = record { within = omega arith; store-kept = refl; buffer-kept = refl; stepped = refl }
+
+module _ (start q : Result) (i : ℕ) (made : Stepped start q i) where
+  one-more : (p : Result) → p ≡ result (onStep boardKind (q .state) (q .store) (q .buffer)) (q .store) → length (p .store) ≡ length (q .store)
+      → length (p .buffer) ≡ length (q .buffer) → i < 128 → Stepped start p (i + 1)
+  unfolding afterSteps
+  one-more p e store buffer h =
+      record {
+        within = omega arith;
+        store-kept = store ∙ made .store-kept;
+        buffer-kept = buffer ∙ made .buffer-kept;
+        stepped = rw (add-one i, ← made .stepped) e;
+      }
+
+  all-steps : 128 ≤ i → q ≡ afterSteps 128 start
+  all-steps h = let e : i ≡ 128 = omega (arith, made .within) in rw e at (made .stepped)
+
 abbrev Inv-loop : tie.InvT-loop
-Inv-loop store₀ reply₀ done₀ i₀ store reply done i =
-    (i ≤ 128) × (length store ≡ length store₀) × (length reply ≡ length reply₀) × (gave done store reply ≡ stepped i (gave done₀ store₀ reply₀))
+Inv-loop store₀ reply₀ done₀ i₀ store reply done i = Stepped (gave done₀ store₀ reply₀) (gave done store reply) i
 
 abbrev μ-loop : tie.MeasureT-loop
 μ-loop store₀ reply₀ done₀ i₀ store reply done i = 128 - i
 
 loop-holds : tie.Need-loop-holds Inv-loop μ-loop
-unfolding stepped
-loop-holds c = (omega arith, refl, refl, refl)
+loop-holds c = no-step _
 
 step-requires : tie.Need-step-requires Inv-loop μ-loop
 step-requires c κs = search needs
@@ -31,13 +58,7 @@ loop-less : tie.Need-loop-less Inv-loop μ-loop
 loop-less c = omega arith
 
 loop-again : tie.Need-loop-again Inv-loop μ-loop
-loop-again c =
-    let turn = c .before .before .before .before .before .before .before .before .before .loop in (
-      omega arith,
-      omega arith,
-      omega arith,
-      one-step-more (turn .i) _ _ _ (turn .inv .3) (c .before .before .before .before .step .ensures),
-    )
+loop-again c = search one-more
 
 same-length : tie.Need-same-length Inv-loop μ-loop
 same-length c = omega arith
@@ -46,9 +67,7 @@ same-length-2 : tie.Need-same-length-2 Inv-loop μ-loop
 same-length-2 c = omega arith
 
 returns : tie.Need-returns Inv-loop μ-loop
-returns c =
-    let e : c .before .loop .i ≡ 128 = omega arith in
-    rw e at (c .before .loop .inv .3)
+returns c = search all-steps
 
 pub run-erase-spec : {M : Type 1} → statement M
 run-erase-spec =

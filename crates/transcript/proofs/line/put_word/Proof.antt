@@ -1,8 +1,7 @@
 -- Each case writes its own text.
-use mathlib.Core.List.{[]}
 use native.Mathlib.Omega.{arith}
+use Rattle.transcript.proofs.LineLaws.{word-put, no-word-put}
 use borrow.Author.Needs.{needs}
-use lib.Seq.{paste-zero}
 use Rattle.transcript.proofs.line.put_word.Statement.{statement}
 use Rattle.transcript.proofs.line.put_word.Tie as tie
 
@@ -19,7 +18,7 @@ same-length : tie.Need-same-length
 same-length c = search needs
 
 returns : tie.Need-returns
-returns c = rw (c .before .before .before .before .before .enum-told .given .1) (c .before .before .put-text .ensures)
+returns c = (search word-put, omega arith)
 
 enum-told-2 : tie.Need-enum-told-2
 enum-told-2 c = search needs
@@ -34,7 +33,7 @@ same-length-2 : tie.Need-same-length-2
 same-length-2 c = search needs
 
 returns-2 : tie.Need-returns-2
-returns-2 c = rw (c .before .before .before .before .before .enum-told2 .given .1) (c .before .before .put-text2 .ensures)
+returns-2 c = (search word-put, omega arith)
 
 enum-told-3 : tie.Need-enum-told-3
 enum-told-3 c = search needs
@@ -49,7 +48,7 @@ same-length-3 : tie.Need-same-length-3
 same-length-3 c = search needs
 
 returns-3 : tie.Need-returns-3
-returns-3 c = rw (c .before .before .before .before .before .enum-told3 .given .1) (c .before .before .put-text3 .ensures)
+returns-3 c = (search word-put, omega arith)
 
 enum-told-4 : tie.Need-enum-told-4
 enum-told-4 c = search needs
@@ -64,7 +63,7 @@ same-length-4 : tie.Need-same-length-4
 same-length-4 c = search needs
 
 returns-4 : tie.Need-returns-4
-returns-4 c = rw (c .before .before .before .before .before .enum-told4 .given .1) (c .before .before .put-text4 .ensures)
+returns-4 c = (search word-put, omega arith)
 
 enum-told-5 : tie.Need-enum-told-5
 enum-told-5 c = search needs
@@ -79,19 +78,19 @@ same-length-5 : tie.Need-same-length-5
 same-length-5 c = search needs
 
 returns-5 : tie.Need-returns-5
-returns-5 c = rw (c .before .before .before .before .before .enum-told5 .given .1) (c .before .before .put-text5 .ensures)
+returns-5 c = (search word-put, omega arith)
 
 enum-told-6 : tie.Need-enum-told-6
 enum-told-6 c = search needs
 
 returns-6 : tie.Need-returns-6
-returns-6 c = rw (c .enum-told6 .given .1) (omega arith, paste-zero _ (c .before .before .before .args .at) [])
+returns-6 c = (search no-word-put, omega arith)
 
 enum-told-7 : tie.Need-enum-told-7
 enum-told-7 c = search needs
 
 returns-7 : tie.Need-returns-7
-returns-7 c = rw (c .enum-told7 .given .1) (omega arith, paste-zero _ (c .before .before .before .args .at) [])
+returns-7 c = (search no-word-put, omega arith)
 
 pub put-word-spec : {M : Type 1} → statement M
 put-word-spec =

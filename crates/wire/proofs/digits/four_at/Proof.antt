@@ -1,9 +1,27 @@
 -- What the two calls of `two_at` tell is what the definition joins.
-use mathlib.Core.Path.{sym, ap, _∙_}
+use mathlib.Core.List.{List}
+use mathlib.Core.Option.{none, some}
+use mathlib.Core.Path.{_≡_}
+use Prim.Native.Nat.{ℕ, _+_, _*_}
 use borrow.Author.Needs.{needs}
-use Rattle.wire.specs.Digits.{octet, fourAt}
+use Rattle.wire.specs.Digits.{fourAt, octet, twoAt}
+use Rattle.wire.specs.declared.digits.Octet.{Octet}
 use Rattle.wire.proofs.digits.four_at.Statement.{statement}
 use Rattle.wire.proofs.digits.four_at.Tie as tie
+
+module _ (s : List ℕ) (at : ℕ) (r : Octet) (told : octet r ≡ twoAt s at) where
+  no-high : r ≡ Octet.Bad → none ≡ fourAt s at
+  unfolding fourAt
+  no-high e = rw (← told, e)
+
+  module _ (high : ℕ) (found : r ≡ Octet.Value high) (q : Octet) (told-low : octet q ≡ twoAt s (at + 2)) where
+    no-low : q ≡ Octet.Bad → none ≡ fourAt s at
+    unfolding fourAt
+    no-low e = rw (← told, found, ← told-low, e)
+
+    both : (low : ℕ) → q ≡ Octet.Value low → some (high * 256 + low) ≡ fourAt s at
+    unfolding fourAt
+    both low e = rw (← told, found, ← told-low, e)
 
 two-at-requires : tie.Need-two-at-requires
 two-at-requires c κs = search needs
@@ -15,8 +33,7 @@ enum-told : tie.Need-enum-told
 enum-told c = search needs
 
 returns : tie.Need-returns
-unfolding fourAt
-returns c = rw (sym (c .before .before .two-at .ensures) ∙ ap octet (c .enum-told .given .1))
+returns c = search no-high
 
 add-two-at : tie.Need-add-two-at
 add-two-at c = search needs
@@ -31,11 +48,7 @@ enum-told-2 : tie.Need-enum-told-2
 enum-told-2 c = search needs
 
 returns-2 : tie.Need-returns-2
-unfolding fourAt
-returns-2 c =
-    let first = c .before .before .before .before in
-    rw
-    (sym (first .before .before .two-at .ensures) ∙ ap octet (first .high .given .1), sym (c .before .before .two-at2 .ensures) ∙ ap octet (c .enum-told2 .given .1))
+returns-2 c = search no-low
 
 cast-t8 : tie.Need-cast-t8
 cast-t8 c = search needs
@@ -50,12 +63,7 @@ add-t11 : tie.Need-add-t11
 add-t11 c = search needs
 
 returns-3 : tie.Need-returns-3
-unfolding fourAt
-returns-3 c =
-    let first = c .before .before .before .before .before in
-    let second = c .before in
-    rw
-    (sym (first .before .before .two-at .ensures) ∙ ap octet (first .high .given .1), sym (second .before .before .two-at2 .ensures) ∙ ap octet (second .low .given .1))
+returns-3 c = search both
 
 pub four-at-spec : {M : Type 1} → statement M
 four-at-spec =

@@ -1,22 +1,51 @@
 -- After i turns the first i bytes are pasted, and each turn pastes one more.
-use Prim.Native.Nat.{_+_, _-_, _<_, _≤_}
-use mathlib.Core.Path.{_≡_, refl, _∙_}
-use native.Mathlib.Omega.{arith}
+use mathlib.Core.List.{List}
+use mathlib.Core.Path.{_≡_, refl}
+use Prim.Native.Nat.{ℕ, _+_, _-_, _≤_, _<_}
 use native.Mathlib.Numerals.{add-one}
-use lib.ListN.{length, length-set}
+use native.Mathlib.Omega.{arith}
+use lib.ListN.{length, getD, set, length-set}
 use lib.Seq.{paste, paste-zero, paste-suc}
 use Rattle.wire.proofs.digits.put_bytes.Statement.{statement}
 use Rattle.wire.proofs.digits.put_bytes.Tie as tie
 
+-- the first i bytes of t stand at a place
+record Pasted (out₀ : List ℕ) (at : ℕ) (t out : List ℕ) (i : ℕ) : Type 0 where
+  within : i ≤ length t
+  room : at + length t ≤ length out₀
+  kept : length out ≡ length out₀
+  is : out ≡ paste out₀ at t i
+
+module _ (o : List ℕ) (at : ℕ) (t : List ℕ) where
+  none-pasted : at + length t ≤ length o → Pasted o at t o 0
+  none-pasted room = record { within = omega arith; room = room; kept = refl; is = paste-zero o at t }
+
+  module _ (out : List ℕ) (i : ℕ) (p : Pasted o at t out i) where
+    one-more : i < length t → Pasted o at t (set out (at + i) (getD t i 0)) (i + 1)
+    one-more h =
+        let room = p .room in
+        let kept = p .kept in
+        record {
+          within = omega arith;
+          room = room;
+          kept = simp length-set kept;
+          is = rw (p .is, add-one, paste-suc o at t i 0 (omega arith) h);
+        }
+
+    all-pasted : length t ≤ i → out ≡ paste o at t (length t)
+    all-pasted h =
+        let w = p .within in
+        let e : i ≡ length t = omega arith in
+        rw (← e) (p .is)
+
 abbrev Inv-loop : tie.InvT-loop
-Inv-loop out₀ at t i₀ out i =
-    (i ≤ length t) × (at + length t ≤ length out₀) × (length out ≡ length out₀) × (out ≡ paste out₀ at t i)
+Inv-loop out₀ at t i₀ out i = Pasted out₀ at t out i
 
 abbrev μ-loop : tie.MeasureT-loop
 μ-loop out₀ at t i₀ out i = length t - i
 
 loop-holds : tie.Need-loop-holds Inv-loop μ-loop
-loop-holds c = (omega arith, c .pre, refl, paste-zero _ (c .args .at) (c .args .t .now))
+loop-holds c = search none-pasted
 
 shared-slice-read-out : tie.Need-shared-slice-read-out Inv-loop μ-loop
 shared-slice-read-out c = omega arith
@@ -34,24 +63,13 @@ loop-less : tie.Need-loop-less Inv-loop μ-loop
 loop-less c = omega arith
 
 loop-again : tie.Need-loop-again Inv-loop μ-loop
-loop-again c =
-    let a = c .before .before .before .args in
-    let i = c .before .before .loop .i in
-    let h : a .at + i < length (a .out .now) = omega arith in
-    let k : i < length (a .t .now) = omega arith in (
-      omega arith,
-      omega arith,
-      simp length-set (omega arith),
-      rw (c .before .before .loop .inv .3, add-one, paste-suc (a .out .now) (a .at) (a .t .now) i 0 h k),
-    )
+loop-again c = search one-more
 
 same-length : tie.Need-same-length Inv-loop μ-loop
 same-length c = omega arith
 
 returns : tie.Need-returns Inv-loop μ-loop
-returns c =
-    let e : c .before .loop .i ≡ length (c .before .before .args .t .now) = omega arith in
-    c .before .loop .inv .3 ∙ rw e
+returns c = search all-pasted
 
 pub put-bytes-spec : {M : Type 1} → statement M
 put-bytes-spec =

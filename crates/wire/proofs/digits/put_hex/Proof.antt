@@ -1,7 +1,7 @@
 -- After i turns the digits of the first i bytes are pasted, and each turn pastes two more.
-use Prim.Native.Nat.{ℕ, _+_, _-_, _<_, _≤_}
 use mathlib.Core.List.{List}
 use mathlib.Core.Path.{_≡_, refl, _∙_}
+use Prim.Native.Nat.{ℕ, _+_, _-_, _≤_, _<_}
 use native.Mathlib.Omega.{arith}
 use lib.ListN.{length, getD}
 use lib.Seq.{paste, paste-zero}
@@ -10,23 +10,46 @@ use Rattle.wire.proofs.DigitLaws.{hex-length, hex-at, paste-more}
 use Rattle.wire.proofs.digits.put_hex.Statement.{statement}
 use Rattle.wire.proofs.digits.put_hex.Tie as tie
 
-byte-pasted : (o : List ℕ) (at : ℕ) (s : List ℕ) (i : ℕ) → i < length s → at + (length s + length s) ≤ length o
-    → paste (paste o at (hexOf s) (i + i)) (at + i + i) (two (getD s i 0)) 2 ≡ paste o at (hexOf s) (i + 1 + (i + 1))
-byte-pasted o at s i h room =
-    let place : at + i + i ≡ at + (i + i) = omega arith in
-    let count : i + 1 + (i + 1) ≡ i + i + 2 = omega arith in
-    let n = hex-length s in
-    rw (place, count) (paste-more o at (hexOf s) (i + i) (two (getD s i 0)) (omega arith) (omega arith) (hex-at s i h))
+-- the digits of the first i bytes of s stand at a place
+record Pasted (out₀ : List ℕ) (at : ℕ) (s out : List ℕ) (i : ℕ) : Type 0 where
+  within : i ≤ length s
+  room : at + (length s + length s) ≤ length out₀
+  kept : length out ≡ length out₀
+  is : out ≡ paste out₀ at (hexOf s) (i + i)
+
+module _ (o : List ℕ) (at : ℕ) (s : List ℕ) where
+  none-pasted : at + (length s + length s) ≤ length o → Pasted o at s o 0
+  none-pasted room = record { within = omega arith; room = room; kept = refl; is = paste-zero o at (hexOf s) }
+
+  byte-pasted : (i : ℕ) → i < length s → at + (length s + length s) ≤ length o
+      → paste (paste o at (hexOf s) (i + i)) (at + i + i) (two (getD s i 0)) 2 ≡ paste o at (hexOf s) (i + 1 + (i + 1))
+  byte-pasted i h room =
+      let place : at + i + i ≡ at + (i + i) = omega arith in
+      let count : i + 1 + (i + 1) ≡ i + i + 2 = omega arith in
+      let n = hex-length s in
+      rw (place, count) (paste-more o at (hexOf s) (i + i) (two (getD s i 0)) (omega arith) (omega arith) (hex-at s i h))
+
+  module _ (out : List ℕ) (i : ℕ) (p : Pasted o at s out i) where
+    one-more : i < length s → (out′ : List ℕ) → out′ ≡ paste out (at + i + i) (two (getD s i 0)) 2 → length out′ ≡ length out
+        → Pasted o at s out′ (i + 1)
+    one-more h out′ e n =
+        let kept = p .kept in
+        record { within = omega arith; room = p .room; kept = omega arith; is = e ∙ rw (p .is) (byte-pasted i h (p .room)) }
+
+    all-pasted : length s ≤ i → out ≡ paste o at (hexOf s) (length (hexOf s))
+    all-pasted h =
+        let w = p .within in
+        let e : i + i ≡ length (hexOf s) = omega (arith, hex-length s) in
+        rw (← e) (p .is)
 
 abbrev Inv-loop : tie.InvT-loop
-Inv-loop out₀ at s i₀ out i =
-    (i ≤ length s) × (at + (length s + length s) ≤ length out₀) × (length out ≡ length out₀) × (out ≡ paste out₀ at (hexOf s) (i + i))
+Inv-loop out₀ at s i₀ out i = Pasted out₀ at s out i
 
 abbrev μ-loop : tie.MeasureT-loop
 μ-loop out₀ at s i₀ out i = length s - i
 
 loop-holds : tie.Need-loop-holds Inv-loop μ-loop
-loop-holds c = (omega arith, c .before .before .pre, refl, paste-zero _ (c .before .before .args .at) (hexOf (c .before .before .args .s .now)))
+loop-holds c = search none-pasted
 
 add-put-two : tie.Need-add-put-two Inv-loop μ-loop
 add-put-two c = omega arith
@@ -47,24 +70,13 @@ loop-less : tie.Need-loop-less Inv-loop μ-loop
 loop-less c = omega arith
 
 loop-again : tie.Need-loop-again Inv-loop μ-loop
-loop-again c =
-    let a = c .before .before .before .before .before .before .before .before .before .args in
-    let turn = c .before .before .before .before .before .before .loop in
-    let h : turn .i < length (a .s .now) = omega arith in (
-      omega arith,
-      turn .inv .1,
-      omega arith,
-      c .before .before .put-two .ensures ∙ rw (turn .inv .3) (byte-pasted (a .out .now) (a .at) (a .s .now) (turn .i) h (turn .inv .1)),
-    )
+loop-again c = search one-more
 
 same-length : tie.Need-same-length Inv-loop μ-loop
 same-length c = omega arith
 
 returns : tie.Need-returns Inv-loop μ-loop
-returns c =
-    let s = c .before .before .before .before .args .s .now in
-    let e : c .before .loop .i + c .before .loop .i ≡ length (hexOf s) = omega (arith, hex-length s) in
-    c .before .loop .inv .3 ∙ rw e
+returns c = search all-pasted
 
 pub put-hex-spec : {M : Type 1} → statement M
 put-hex-spec =

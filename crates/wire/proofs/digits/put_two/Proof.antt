@@ -1,12 +1,13 @@
 -- The two stores are two turns of a copy of the two digits.
-use Prim.Native.Nat.{ℕ, _+_, _≤_}
 use mathlib.Core.List.{List, [], _∷_}
 use mathlib.Core.Path.{_≡_, _∙_}
-use native.Mathlib.Omega.{arith}
+use Prim.Native.Nat.{ℕ, _+_, _≤_, _/_, _%_}
 use native.Mathlib.Numerals.{add-one}
+use native.Mathlib.Omega.{arith}
 use borrow.Author.Needs.{needs}
 use lib.ListN.{length, set, length-set}
 use lib.Seq.{paste, paste-suc, set-split, append-snoc}
+use Rattle.wire.specs.Digits.{digitOf, two}
 use Rattle.wire.proofs.digits.put_two.Statement.{statement}
 use Rattle.wire.proofs.digits.put_two.Tie as tie
 
@@ -14,6 +15,10 @@ two-stored : (o : List ℕ) (at a b : ℕ) → at + 2 ≤ length o → set (set 
 two-stored o at a b h =
     let e : set o at a ≡ paste o at (a ∷ b ∷ []) 1 = set-split o at a (omega arith) ∙ rw (add-one, append-snoc) in
     rw e (paste-suc o at (a ∷ b ∷ []) 1 0 (omega arith) (omega arith))
+
+two-digits : (o : List ℕ) (at n a b : ℕ) → a ≡ digitOf (n / 16) → b ≡ digitOf (n % 16) → at + 2 ≤ length o
+    → set (set o at a) (at + 1) b ≡ paste o at (two n) 2
+two-digits o at n a b high low room = rw (high, low) (two-stored o at _ _ room)
 
 digit-of-requires : tie.Need-digit-of-requires
 digit-of-requires c κs = search needs
@@ -34,9 +39,7 @@ same-length : tie.Need-same-length
 same-length c = search needs
 
 returns : tie.Need-returns
-returns c =
-    let start = c .before .before .before in
-    rw (c .before .digit-of .ensures, c .digit-of2 .ensures) (two-stored (start .args .out .now) (start .args .at) _ _ (start .pre))
+returns c = search two-digits
 
 pub put-two-spec : {M : Type 1} → statement M
 put-two-spec =

@@ -1,11 +1,41 @@
 -- What the two calls of `value_of` tell is what the definition joins.
-use mathlib.Core.Path.{sym, ap, _∙_}
+use mathlib.Core.List.{List}
+use mathlib.Core.Option.{none, some}
+use mathlib.Core.Path.{_≡_, sym, _∙_}
+use Prim.Native.Nat.{ℕ, _+_, _*_, _<_}
 use native.Mathlib.Omega.{arith}
 use borrow.Author.Needs.{needs}
-use Rattle.wire.specs.Digits.{octet, twoAt}
+use lib.ListN.{getD}
+use Rattle.wire.specs.Digits.{octet, valueOf, twoAt}
+use Rattle.wire.specs.declared.digits.Octet.{Octet}
 use Rattle.wire.proofs.DigitLaws.{digit-below}
 use Rattle.wire.proofs.digits.two_at.Statement.{statement}
 use Rattle.wire.proofs.digits.two_at.Tie as tie
+
+module _ (s : List ℕ) (at : ℕ) (r : Octet) (told : octet r ≡ valueOf (getD s at 0)) where
+  no-high : r ≡ Octet.Bad → none ≡ twoAt s at
+  unfolding twoAt
+  no-high e = rw (← told, e)
+
+  module _ (high : ℕ) (found : r ≡ Octet.Value high) where
+    high-fits : high * 16 < 256
+    high-fits = let h : high < 16 = digit-below (getD s at 0) (sym told ∙ rw found) in omega arith
+
+    module _ (q : Octet) (told-low : octet q ≡ valueOf (getD s (at + 1) 0)) where
+      no-low : q ≡ Octet.Bad → none ≡ twoAt s at
+      unfolding twoAt
+      no-low e = rw (← told, found, ← told-low, e)
+
+      module _ (low : ℕ) (found-low : q ≡ Octet.Value low) where
+        both-fit : high * 16 + low < 256
+        both-fit =
+            let h : high < 16 = digit-below (getD s at 0) (sym told ∙ rw found) in
+            let l : low < 16 = digit-below (getD s (at + 1) 0) (sym told-low ∙ rw found-low) in
+            omega arith
+
+        both : some (high * 16 + low) ≡ twoAt s at
+        unfolding twoAt
+        both = rw (← told, found, ← told-low, found-low)
 
 shared-slice-read-value-of : tie.Need-shared-slice-read-value-of
 shared-slice-read-value-of c = search needs
@@ -20,8 +50,7 @@ enum-told : tie.Need-enum-told
 enum-told c = search needs
 
 returns : tie.Need-returns
-unfolding twoAt
-returns c = rw (sym (c .before .before .value-of .ensures) ∙ ap octet (c .enum-told .given .1))
+returns c = search no-high
 
 add-value-of : tie.Need-add-value-of
 add-value-of c = search needs
@@ -39,31 +68,16 @@ enum-told-2 : tie.Need-enum-told-2
 enum-told-2 c = search needs
 
 returns-2 : tie.Need-returns-2
-unfolding twoAt
-returns-2 c =
-    let first = c .before .before .before .before .before in
-    rw
-    (sym (first .before .before .value-of .ensures) ∙ ap octet (first .high .given .1), sym (c .before .before .value-of2 .ensures) ∙ ap octet (c .enum-told2 .given .1))
+returns-2 c = search no-low
 
 mul-t7 : tie.Need-mul-t7
-mul-t7 c =
-    let first = c .before .before .before .before .before .before in
-    omega (arith, digit-below _ (sym (first .before .before .value-of .ensures) ∙ ap octet (first .high .given .1)))
+mul-t7 c = search high-fits
 
 add-t11 : tie.Need-add-t11
-add-t11 c =
-    let first = c .before .before .before .before .before .before in
-    let second = c .before in
-    omega
-    (arith, digit-below _ (sym (first .before .before .value-of .ensures) ∙ ap octet (first .high .given .1)), digit-below _ (sym (second .before .before .value-of2 .ensures) ∙ ap octet (second .low .given .1)))
+add-t11 c = search both-fit
 
 returns-3 : tie.Need-returns-3
-unfolding twoAt
-returns-3 c =
-    let first = c .before .before .before .before .before .before in
-    let second = c .before in
-    rw
-    (sym (first .before .before .value-of .ensures) ∙ ap octet (first .high .given .1), sym (second .before .before .value-of2 .ensures) ∙ ap octet (second .low .given .1))
+returns-3 c = search both
 
 pub two-at-spec : {M : Type 1} → statement M
 two-at-spec =

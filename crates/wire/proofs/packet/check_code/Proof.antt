@@ -1,12 +1,20 @@
 -- The bytes from index 1 to the check code are as many as the size says.
-use borrow.Author.Needs.{needs}
-use Prim.Native.Nat.{_-_}
+use mathlib.Core.List.{List}
 use mathlib.Core.Path.{_≡_, _∙_}
+use Prim.Native.Nat.{ℕ, _-_}
 use native.Mathlib.Omega.{arith}
-use lib.ListN.{length}
-use Rattle.wire.specs.Packet.{size, checkCode}
+use borrow.Author.Needs.{needs}
+use lib.ListN.{length, drop, take}
+use Rattle.wire.specs.Packet.{xorOf, size, checkCode}
+use Rattle.wire.specs.Inner.{Whole}
 use Rattle.wire.proofs.packet.check_code.Statement.{statement}
 use Rattle.wire.proofs.packet.check_code.Tie as tie
+
+to-the-code : (p : List ℕ) → Whole p → (x : ℕ) → x ≡ xorOf (take (length p - 2 - 1) (drop 1 p)) → x ≡ checkCode p
+unfolding checkCode
+to-the-code p whole x e =
+    let n : length p - 2 - 1 ≡ size p - 3 = omega arith in
+    e ∙ rw n
 
 sub-xor-of : tie.Need-sub-xor-of
 sub-xor-of c = search needs
@@ -24,11 +32,7 @@ xor-of-requires : tie.Need-xor-of-requires
 xor-of-requires c κs = search needs
 
 returns : tie.Need-returns
-unfolding checkCode
-returns c =
-    let p = c .before .before .before .args .p .now in
-    let e : length p - 2 - 1 ≡ size p - 3 = omega arith in
-    c .xor-of .ensures ∙ rw e
+returns c = search to-the-code
 
 pub check-code-spec : {M : Type 1} → statement M
 check-code-spec =

@@ -1,14 +1,11 @@
 -- A sound board holds a proper beginning, so the receiver steps, and a whole packet is one that may act.
-use mathlib.Core.Path.{sym, _∙_}
-use Prim.Native.Nat.{ℕ}
-use lib.ListN.{length-map}
 use borrow.Author.Needs.{needs}
-use Rattle.board.proofs.CallLaws.{rests, waits-whole, declines-whole, acting, acts-whole}
+use Rattle.board.proofs.CallLaws.{held-proper, waits-whole, declines-whole, acting, acts-whole}
 use Rattle.board.proofs.board.Board.accepts.Statement.{statement}
 use Rattle.board.proofs.board.Board.accepts.Tie as tie
 
 step-requires : tie.Need-step-requires
-step-requires c κs = rests _ _ _ (c .before .before .before .pre) .proper
+step-requires c κs = search held-proper
 
 enum-told : tie.Need-enum-told
 enum-told c = search needs
@@ -35,8 +32,7 @@ add-acts : tie.Need-add-acts
 add-acts c = search needs
 
 acts-requires : tie.Need-acts-requires
-acts-requires c κs = let s = c .before .before .before .before .before .before .before .before in
-    acting (s .args .t1) _ _ (s .pre) _ _ _ (c .before .before .before .before .step .ensures .1) (c .before .before .enum-told2 .given .1) (c .before .before .before .before .step .ensures .0) (sym (length-map (s .args .t1 .serial .bytes) (λ (x : ℕ). x)) ∙ s .good .0 .1 .1 .1 .0 .1 .1 .0 .1 .0 .1) (sym (length-map (s .args .t1 .model .bytes) (λ (x : ℕ). x)) ∙ s .good .0 .1 .1 .1 .1 .0 .1 .1 .0 .1 .0 .1)
+acts-requires c κs = search (needs, acting)
 
 same-length : tie.Need-same-length
 same-length c = search needs

@@ -1,27 +1,36 @@
 -- A plan of one byte, the unused one at the place.
-use native.Mathlib.Omega.{arith}
 use borrow.Author.Needs.{needs}
-use Rattle.packets.proofs.PlanLaws.{one-ready, one-stored}
+use mathlib.Core.List.{List, [], _∷_}
+use native.Mathlib.Omega.{arith}
+use mathlib.Core.Path.{_≡_, _∙_}
+use Prim.Native.Nat.{ℕ}
+use lib.ListN.{getD, set}
+use Rattle.plan.specs.Stores.{entry, applied}
+use Rattle.plan.specs.Plans.{storesOf}
+use Rattle.plan.specs.declared.Plan.{Plan}
+use Rattle.store.specs.Layout.{unusedStore}
+use Rattle.plan.proofs.Laws.{one-committable, one-stored}
 use Rattle.board.proofs.board.Board.clears.Statement.{statement}
 use Rattle.board.proofs.board.Board.clears.Tie as tie
+
+cleared : (p : Plan) (place : ℕ) (u m m' : List ℕ) → storesOf p ≡ entry place (getD u place 0) ∷ [] → m' ≡ applied (storesOf p) m → u ≡ unusedStore
+    → m' ≡ set m place (getD unusedStore place 0)
+cleared p place u m m' e q w = one-stored p place (getD u place 0) m m' e q ∙ rw w
 
 unused-requires : tie.Need-unused-requires
 unused-requires c κs = search needs
 
-empty-requires : tie.Need-empty-requires
-empty-requires c κs = search needs
+array-read-one : tie.Need-array-read-one
+array-read-one c = search needs
 
-array-read-with : tie.Need-array-read-with
-array-read-with c = search needs
-
-with-requires : tie.Need-with-requires
-with-requires c κs = search needs
+one-requires : tie.Need-one-requires
+one-requires c κs = search needs
 
 commit-requires : tie.Need-commit-requires
-commit-requires c κs = one-ready _ _ _ _ _ (c .before .before .empty .ensures .0) (c .before .with .ensures) (omega (arith, c .before .before .before .before .before .pre .1, c .before .before .before .before .before .pre .2))
+commit-requires c κs = one-committable _ _ _ _ (c .before .one .ensures) (omega arith)
 
-add-t12 : tie.Need-add-t12
-add-t12 c = search needs
+add-t11 : tie.Need-add-t11
+add-t11 c = search needs
 
 left-requires : tie.Need-left-requires
 left-requires c κs = search needs
@@ -30,18 +39,17 @@ same-length : tie.Need-same-length
 same-length c = search needs
 
 returns : tie.Need-returns
-returns c = (c .left .ensures .1, c .left .ensures .0, rw (← c .before .before .before .before .before .before .before .unused .ensures) (one-stored _ _ _ _ _ _ (c .before .before .before .before .before .before .empty .ensures .0) (c .before .before .before .before .before .with .ensures) (c .before .before .before .commit .ensures)))
+returns c = search cleared
 
 pub clears-spec : {M : Type 1} → statement M
 clears-spec =
     tie.close
     (tie.spec
     unused-requires
-    empty-requires
-    array-read-with
-    with-requires
+    array-read-one
+    one-requires
     commit-requires
-    add-t12
+    add-t11
     left-requires
     same-length
     returns)

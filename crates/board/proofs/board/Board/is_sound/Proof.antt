@@ -1,7 +1,4 @@
 -- The identity is judged by the counts of its texts, which are short where the texts are seen so.
-use mathlib.Core.Path.{sym, _∙_}
-use Prim.Native.Nat.{ℕ}
-use lib.ListN.{length-map}
 use borrow.Author.Needs.{needs}
 use Rattle.board.proofs.CallLaws.{unnamed-unsound, named-sound}
 use Rattle.board.proofs.board.Board.is_sound.Statement.{statement}
@@ -17,15 +14,13 @@ is-identity-requires : tie.Need-is-identity-requires
 is-identity-requires c κs = search needs
 
 returns : tie.Need-returns
-returns c = let s = c .before .before .before .before .before .before .before in
-    unnamed-unsound (s .args .t1) _ (sym (length-map (s .args .t1 .serial .bytes) (λ (x : ℕ). x)) ∙ s .good .0 .1 .1 .1 .0 .1 .1 .0 .1 .0 .1) (sym (length-map (s .args .t1 .model .bytes) (λ (x : ℕ). x)) ∙ s .good .0 .1 .1 .1 .1 .0 .1 .1 .0 .1 .0 .1) _ (c .before .is-identity .ensures) (c .if1 .taken)
+returns c = search (needs, unnamed-unsound)
 
 is-sound-requires : tie.Need-is-sound-requires
 is-sound-requires c κs = search needs
 
 returns-2 : tie.Need-returns-2
-returns-2 c = let s = c .before .before .before .before .before .before .before .before .before .before in
-    named-sound (s .args .t1) _ (sym (length-map (s .args .t1 .serial .bytes) (λ (x : ℕ). x)) ∙ s .good .0 .1 .1 .1 .0 .1 .1 .0 .1 .0 .1) (sym (length-map (s .args .t1 .model .bytes) (λ (x : ℕ). x)) ∙ s .good .0 .1 .1 .1 .1 .0 .1 .1 .0 .1 .0 .1) _ (c .before .before .before .before .is-identity .ensures) _ (c .before .before .before .if1 .left) (c .is-sound .ensures)
+returns-2 c = search (needs, named-sound)
 
 pub is-sound-spec : {M : Type 1} → statement M
 is-sound-spec =

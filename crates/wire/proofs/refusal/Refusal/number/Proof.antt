@@ -1,7 +1,14 @@
 -- Each case has its number by the definition.
+use mathlib.Core.Path.{_≡_}
+use Prim.Native.Nat.{ℕ}
 use borrow.Author.Needs.{needs}
+use Rattle.wire.specs.Refusal.{numberOf}
+use Rattle.wire.specs.declared.refusal.Refusal.{Refusal}
 use Rattle.wire.proofs.refusal.Refusal.number.Statement.{statement}
 use Rattle.wire.proofs.refusal.Refusal.number.Tie as tie
+
+of-case : (n : ℕ) (r q : Refusal) → r ≡ q → n ≡ numberOf q → n ≡ numberOf r
+of-case n r q e p = rw e p
 
 enum-told : tie.Need-enum-told
 enum-told c = search needs
@@ -67,67 +74,67 @@ enum-told-21 : tie.Need-enum-told-21
 enum-told-21 c = search needs
 
 returns : tie.Need-returns
-returns c = rw (c .enum-told .given .1)
+returns c = search of-case
 
 returns-2 : tie.Need-returns-2
-returns-2 c = rw (c .enum-told2 .given .1)
+returns-2 c = search of-case
 
 returns-3 : tie.Need-returns-3
-returns-3 c = rw (c .enum-told3 .given .1)
+returns-3 c = search of-case
 
 returns-4 : tie.Need-returns-4
-returns-4 c = rw (c .enum-told4 .given .1)
+returns-4 c = search of-case
 
 returns-5 : tie.Need-returns-5
-returns-5 c = rw (c .enum-told5 .given .1)
+returns-5 c = search of-case
 
 returns-6 : tie.Need-returns-6
-returns-6 c = rw (c .enum-told6 .given .1)
+returns-6 c = search of-case
 
 returns-7 : tie.Need-returns-7
-returns-7 c = rw (c .enum-told7 .given .1)
+returns-7 c = search of-case
 
 returns-8 : tie.Need-returns-8
-returns-8 c = rw (c .enum-told8 .given .1)
+returns-8 c = search of-case
 
 returns-9 : tie.Need-returns-9
-returns-9 c = rw (c .enum-told9 .given .1)
+returns-9 c = search of-case
 
 returns-10 : tie.Need-returns-10
-returns-10 c = rw (c .enum-told10 .given .1)
+returns-10 c = search of-case
 
 returns-11 : tie.Need-returns-11
-returns-11 c = rw (c .enum-told11 .given .1)
+returns-11 c = search of-case
 
 returns-12 : tie.Need-returns-12
-returns-12 c = rw (c .enum-told12 .given .1)
+returns-12 c = search of-case
 
 returns-13 : tie.Need-returns-13
-returns-13 c = rw (c .enum-told13 .given .1)
+returns-13 c = search of-case
 
 returns-14 : tie.Need-returns-14
-returns-14 c = rw (c .enum-told14 .given .1)
+returns-14 c = search of-case
 
 returns-15 : tie.Need-returns-15
-returns-15 c = rw (c .enum-told15 .given .1)
+returns-15 c = search of-case
 
 returns-16 : tie.Need-returns-16
-returns-16 c = rw (c .enum-told16 .given .1)
+returns-16 c = search of-case
 
 returns-17 : tie.Need-returns-17
-returns-17 c = rw (c .enum-told17 .given .1)
+returns-17 c = search of-case
 
 returns-18 : tie.Need-returns-18
-returns-18 c = rw (c .enum-told18 .given .1)
+returns-18 c = search of-case
 
 returns-19 : tie.Need-returns-19
-returns-19 c = rw (c .enum-told19 .given .1)
+returns-19 c = search of-case
 
 returns-20 : tie.Need-returns-20
-returns-20 c = rw (c .enum-told20 .given .1)
+returns-20 c = search of-case
 
 returns-21 : tie.Need-returns-21
-returns-21 c = rw (c .enum-told21 .given .1)
+returns-21 c = search of-case
 
 pub number-spec : {M : Type 1} → statement M
 number-spec =

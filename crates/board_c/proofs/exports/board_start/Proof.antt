@@ -1,0 +1,95 @@
+-- A refused start gives its number, a state of another size 12, and else the board is written and can be read back.
+use Prim.Native.Nat.{ℕ}
+use mathlib.Core.List.{List}
+use mathlib.Core.Path.{_≡_, refl, sym, ap, _∙_, subst}
+use lib.ListN.{length}
+use borrow.Author.Tests.{eq-eqb, ne-eqb}
+use Rattle.wire.specs.Refusal.{numberOf}
+use Rattle.wire.specs.declared.refusal.Refusal.{Refusal}
+use Rattle.calls.specs.Board as calls
+use Rattle.packets.specs.Packets.{BoardState}
+use Rattle.board.specs.View.{stateOf, startedOf, startedWith}
+use Rattle.board.specs.declared.board.Started.{Started}
+use Rattle.board.specs.declared.board.StartAnswer.{StartAnswer}
+use Rattle.board_c.specs.State.{stateIn}
+use Rattle.board_c.specs.Exports.{startIn, Starts}
+use borrow.Author.Needs.{needs}
+use Rattle.board_c.proofs.exports.board_start.Statement.{statement}
+use Rattle.board_c.proofs.exports.board_start.Tie as tie
+
+module _ (x : calls.Started BoardState) (v : Started) where
+  answer-is : (w : StartAnswer) → v .answer ≡ w → startedOf v ≡ x → startedWith w (v .board) ≡ x
+  answer-is w q e = ap (λ (w : StartAnswer). startedWith w (v .board)) (sym q) ∙ e
+
+  refused-starts : (r : Refusal) (n : ℕ) (s : List ℕ) → v .answer ≡ StartAnswer.Refused r → startedOf v ≡ x → n ≡ numberOf r
+      → Starts (startIn (length s) x) n s s
+  unfolding startIn
+  refused-starts r n s q e k =
+      subst (λ (x : calls.Started BoardState). Starts (startIn (length s) x) n s s) (answer-is (StartAnswer.Refused r) q e)
+      (record { result = k; state = refl })
+
+  another-size : (s : List ℕ) → v .answer ≡ StartAnswer.Ready → startedOf v ≡ x → (length s ≡ 111 → ⊥) → Starts (startIn (length s) x) 12 s s
+  unfolding startIn
+  another-size s q e n =
+      subst (λ (x : calls.Started BoardState). Starts (startIn (length s) x) 12 s s) (answer-is StartAnswer.Ready q e)
+      (rw (ne-eqb (length s) 111 n) (record { result = refl; state = refl }))
+
+  put-starts : (s after : List ℕ) → v .answer ≡ StartAnswer.Ready → startedOf v ≡ x → length s ≡ 111 → stateIn after ≡ stateOf (v .board)
+      → Starts (startIn (length s) x) 0 s after
+  unfolding startIn
+  put-starts s after q e size kept =
+      subst (λ (x : calls.Started BoardState). Starts (startIn (length s) x) 0 s after) (answer-is StartAnswer.Ready q e)
+      (rw (eq-eqb (length s) 111 size) (record { result = refl; state = kept }))
+
+start-requires : tie.Need-start-requires
+start-requires c κs = search needs
+
+enum-known-answer : tie.Need-enum-known-answer
+enum-known-answer c = search needs
+
+number-requires : tie.Need-number-requires
+number-requires c κs = search needs
+
+same-length : tie.Need-same-length
+same-length c = search needs
+
+returns : tie.Need-returns
+returns c = (search refused-starts, search)
+
+enum-told : tie.Need-enum-told
+enum-told c = search needs
+
+same-length-2 : tie.Need-same-length-2
+same-length-2 c = search needs
+
+returns-2 : tie.Need-returns-2
+returns-2 c = (search another-size, search)
+
+put-state-requires : tie.Need-put-state-requires
+put-state-requires c κs = search needs
+
+same-length-3 : tie.Need-same-length-3
+same-length-3 c = search needs
+
+same-length-4 : tie.Need-same-length-4
+same-length-4 c = search needs
+
+returns-3 : tie.Need-returns-3
+returns-3 c = (search put-starts, search)
+
+pub board-start-spec : {M : Type 1} → statement M
+board-start-spec =
+    tie.close
+    (tie.spec
+    start-requires
+    enum-known-answer
+    number-requires
+    same-length
+    returns
+    enum-told
+    same-length-2
+    returns-2
+    put-state-requires
+    same-length-3
+    same-length-4
+    returns-3)
