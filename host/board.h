@@ -89,7 +89,7 @@ enum board_refusal {
  * is not 111. A refused start writes nothing.
  *
  * Else the state is written. Serial number and model are copied into it and may go. With 00h in byte 0 the board holds nothing and
- * no erase is pending; with E7h an erase is pending from its first step, whatever the other bytes hold, and nobody is owed a reply.
+ * no erase is pending; with E7h an erase is pending from its first step, whatever the other bytes hold, and no reply is owed.
  * The store is not written in this version.
  */
 uint8_t board_start(uint8_t id, const uint8_t *serial, size_t serial_len, const uint8_t *model, size_t model_len, uint8_t *store,

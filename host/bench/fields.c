@@ -15,9 +15,9 @@ static void add(struct fields *fields, const char *key, unsigned number, int dig
 }
 
 /* A result or status. */
-static void add_outcome(struct fields *fields, const char *key, unsigned outcome)
+static void add_status(struct fields *fields, const char *key, unsigned status)
 {
-    add(fields, key, outcome, 2, outcome == 0 ? "acknowledged" : "refused");
+    add(fields, key, status, 2, status == 0 ? "acknowledged" : "refused");
 }
 
 /* Result, page, code, operation type, max, value. */
@@ -28,7 +28,7 @@ static void add_parameter(struct fields *fields, const uint16_t *n)
                        : n[1] == ERASE_PAGE && n[2] == ERASE_CODE ? "erase"
                                                                   : "no setting of this board";
 
-    add_outcome(fields, "result", n[0]);
+    add_status(fields, "result", n[0]);
     add(fields, "page", n[1], 2, NULL);
     add(fields, "code", n[2], 2, name);
     add(fields, "type", n[3], 2, NULL);
@@ -62,18 +62,18 @@ struct fields fields_of(const struct reply *reply)
         break;
     case STATION_REPLY_POWER_READ:
     case STATION_REPLY_POWER_CONTROL:
-        add_outcome(&fields, "status", n[0]);
+        add_status(&fields, "status", n[0]);
         add(&fields, "mode", n[1], 4, mode_words(n[1]));
         break;
     case STATION_REPLY_DATE_READ:
         add_date_fields(&fields, n);
         break;
     case STATION_REPLY_DATE_WRITE:
-        add_outcome(&fields, "status", n[0]);
+        add_status(&fields, "status", n[0]);
         add_date_fields(&fields, n + 1);
         break;
     case STATION_REPLY_TAG_WRITE:
-        add_outcome(&fields, "status", n[0]);
+        add_status(&fields, "status", n[0]);
         break;
     default:
         break;

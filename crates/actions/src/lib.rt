@@ -274,15 +274,15 @@ fn item_read(id: u8, serial: ItemBytes, model: ItemBytes, item: Item, store: &[u
     }
 }
 
-// A reply that carries a text.
-fn item_reply(item: Item, text: ItemBytes) -> Decision
-    requires { ⌜ text .count ≤ 16 ⌝ }
-    ensures { λ r. ⌜ Decides r (says (itemReply item (itemBytes text))) ⌝ }
+// A reply that carries an item.
+fn item_reply(item: Item, held: ItemBytes) -> Decision
+    requires { ⌜ held .count ≤ 16 ⌝ }
+    ensures { λ r. ⌜ Decides r (says (itemReply item (itemBytes held))) ⌝ }
 {
     let plan = Plan::empty();
-    let bytes = text.bytes;
+    let bytes = held.bytes;
     Decision {
-        effect: Effect::Replies(Reply::Item(item, text.count)),
+        effect: Effect::Replies(Reply::Item(item, held.count)),
         plan,
         bytes,
     }

@@ -56,8 +56,8 @@ module _ (t : ItemBytes) (all : length (t .bytes) ≡ 16) where
   seen-length : length (identityBytes t) ≡ min (t .count) 17
   seen-length = simp (length-take, length-append, all)
 
-  pub text-few : leb (length (identityBytes t)) 16 ≡ leb (t .count) 16
-  text-few =
+  pub seen-few : leb (length (identityBytes t)) 16 ≡ leb (t .count) 16
+  seen-few =
       cond-by (λ (_ : ℕ). leb (length (identityBytes t)) 16 ≡ leb (t .count) 16) (leb (t .count) 16) 0 0
       (λ h. rw h (le-leb (length (identityBytes t)) 16 (omega (arith, seen-length, leb-true (t .count) 16 h))))
       (λ h. rw h (lt-leb (length (identityBytes t)) 16 (omega (arith, seen-length, leb-false (t .count) 16 h))))
@@ -68,7 +68,7 @@ module _ (t : ItemBytes) (all : length (t .bytes) ≡ 16) where
 module _ (b : Board) (m : List ℕ) (serial : length (b .serial .bytes) ≡ 16) (model : length (b .model .bytes) ≡ 16) where
   identity-fits : isIdentity (stateOf b .ident) ≡ identityFits (b .id) (b .serial .count) (b .model .count)
   unfolding isIdentity
-  identity-fits = rw (text-few (b .serial) serial, text-few (b .model) model)
+  identity-fits = rw (seen-few (b .serial) serial, seen-few (b .model) model)
 
   sound-by : isSound boardKind (stateOf b) m ≡ (identityFits (b .id) (b .serial .count) (b .model .count) && soundWith (take (b .len) (b .held)) (b .erase) m)
   unfolding isSound
@@ -108,7 +108,7 @@ call-stopped : (c : Call) (s : BoardState) (m lent : List ℕ) (e : EntryCheck) 
 unfolding callOn
 call-stopped c s m lent EntryCheck.ShortBuffer k = refl
 call-stopped c s m lent EntryCheck.Unsound k = refl
-call-stopped c s m lent EntryCheck.Idle k = absurd (miss notIdle 2 tt k)
+call-stopped c s m lent EntryCheck.NonePending k = absurd (miss notIdle 2 tt k)
 call-stopped c s m lent EntryCheck.Pending k = refl
 
 step-stopped : (s : BoardState) (lent : List ℕ) (e : EntryCheck) → OneOf notPending (tagOf the-type e)
@@ -116,7 +116,7 @@ step-stopped : (s : BoardState) (lent : List ℕ) (e : EntryCheck) → OneOf not
 unfolding stepOn
 step-stopped s lent EntryCheck.ShortBuffer k = refl
 step-stopped s lent EntryCheck.Unsound k = refl
-step-stopped s lent EntryCheck.Idle k = refl
+step-stopped s lent EntryCheck.NonePending k = refl
 step-stopped s lent EntryCheck.Pending k = absurd (miss notPending 3 tt k)
 
 -- a call, by what its entry check answered
@@ -131,7 +131,7 @@ module _ (c : Call) (b : Board) (m lent : List ℕ) (entry : EntryCheck) (short 
   call-refused-whole d r left n k =
       refused-whole d b r m lent left _ (call-entered ∙ call-stopped c (stateOf b) m lent entry k ∙ rw n)
 
-  pub call-done-whole : (g : Result) → entry ≡ EntryCheck.Idle → g ≡ result (kind.does c (stateOf b) m lent) m
+  pub call-done-whole : (g : Result) → entry ≡ EntryCheck.NonePending → g ≡ result (kind.does c (stateOf b) m lent) m
       → g ≡ result (onCall boardKind c (stateOf b) m lent) m
   unfolding callOn
   call-done-whole g e h =
@@ -165,7 +165,7 @@ idle-is Erase.Idle h = refl
 idle-is (Erase.Pending p owed) h = absurd (false≢true (sym h))
 
 module _ (b : Board) (m : List ℕ) (entry : EntryCheck) (short : Bool) (told : Entered entry short (stateOf b) m) where
-  idle-behind : entry ≡ EntryCheck.Idle → Passed short (isSound boardKind (stateOf b) m) (isPending (eraseOf (b .erase))) false
+  idle-behind : entry ≡ EntryCheck.NonePending → Passed short (isSound boardKind (stateOf b) m) (isPending (eraseOf (b .erase))) false
   unfolding entryCheckOf
   idle-behind e = idle-passed short _ _ (sym told ∙ rw e)
 
@@ -173,11 +173,11 @@ module _ (b : Board) (m : List ℕ) (entry : EntryCheck) (short : Bool) (told : 
   unfolding entryCheckOf
   pending-behind e = pending-passed short _ _ (sym told ∙ rw e)
 
-  idle-erase : entry ≡ EntryCheck.Idle → b .erase ≡ Erase.Idle
+  idle-erase : entry ≡ EntryCheck.NonePending → b .erase ≡ Erase.Idle
   idle-erase e = idle-is (b .erase) (idle-behind e .phase)
 
 module _ (b : Board) (m lent : List ℕ) (entry : EntryCheck) (told : Entered entry (ltb (length lent) leastBuffer) (stateOf b) m) where
-  pub accepting : entry ≡ EntryCheck.Idle → Accepting b m lent
+  pub accepting : entry ≡ EntryCheck.NonePending → Accepting b m lent
   accepting e =
       let p = idle-behind b m entry _ told e in
       record { sound = p .is-sound; idle = idle-erase b m entry _ told e; room = ltb-false (length lent) leastBuffer (p .long) }
@@ -279,7 +279,7 @@ fresh-board r left = rw left tt
 
 -- ---- a gap
 
-pub gap-whole : (b : Board) (m : List ℕ) (entry : EntryCheck) → Entered entry false (stateOf b) m → entry ≡ EntryCheck.Idle
+pub gap-whole : (b : Board) (m : List ℕ) (entry : EntryCheck) → Entered entry false (stateOf b) m → entry ≡ EntryCheck.NonePending
     → gave
     (record { board = record { id = b .id; serial = b .serial; model = b .model; held = b .held; len = 0; erase = b .erase }; answer = Answer.Waiting }) m []
     ≡ result (onCall boardKind gap (stateOf b) m []) m

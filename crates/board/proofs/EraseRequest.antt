@@ -22,7 +22,7 @@ use Rattle.actions.specs.Act.{begins, effect, effectOf, setEffect}
 use Rattle.packets.specs.Packets.{holding, BoardState, Addressee, own, all, addressee, toOwn, toAll, onPacketTo, onPacket}
 use Rattle.board.specs.BoardKind.{byte, gap, does, boardKind}
 use Rattle.board.specs.Demand3.{Events, answersIn, eraseRequest}
-use Rattle.board.specs.Fed.{byteCalls}
+use Rattle.board.specs.ByteCalls.{byteCalls}
 use Rattle.packets.proofs.IdentityLaws.{named-told}
 use Rattle.board.proofs.BoardLaws.{Resting, resting, resting-sound, holds-others, nothing-proper}
 use Rattle.board.proofs.Numbers.{eraseText, erasePacket, request-bytes}

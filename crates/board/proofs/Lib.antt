@@ -1,6 +1,8 @@
 pub mod BoardLaws
 pub mod RefusalLaws
 pub mod Bounds
+pub mod SpareLaws
+pub mod Answers
 pub mod PacketFed
 pub mod Numbers
 pub mod EraseRequest

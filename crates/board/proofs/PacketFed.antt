@@ -18,7 +18,7 @@ use Rattle.calls.specs.Lists.{call, seen, run}
 use Rattle.packets.specs.Packets.{BoardState, BoardOutcome, holding, onPacket}
 use Rattle.board.specs.BoardKind.{Call, byte, lends, onReceipt, does, boardKind}
 use Rattle.board.specs.Demand3.{Events, Trace, answersIn}
-use Rattle.board.specs.Fed.{byteCalls, waits, seenThen}
+use Rattle.board.specs.ByteCalls.{byteCalls, waits, seenThen}
 use Rattle.board.proofs.BoardLaws.{Resting, resting, resting-sound, holds-others}
 
 -- past the checks a call is done

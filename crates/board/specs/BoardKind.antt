@@ -32,7 +32,7 @@ does gap s m lent = answers waiting (s .ident) [] lent
 
 -- ---- the kind
 
--- the packet that a byte completes went to the own address
+-- the packet that a byte completes went to the own address: as `toOwn` and `toAll` say it, and asked by the laws of a kind alone
 unfoldable pub owes : Call → BoardState → Bool
 owes (byte b) s = eqb (getD (s .held ++ (b ∷ [])) 2 0) (addressOf (s .ident .id))
 owes gap s = false

@@ -1,4 +1,4 @@
--- What inner functions ask and give. No promise of a public call cites it.
+-- What inner functions ask and give. No contract of an entry point cites it.
 use mathlib.Core.Bool.{Bool, true, false, cond, _&&_}
 use mathlib.Core.List.{List, []}
 use mathlib.Core.Path.{_≡_}

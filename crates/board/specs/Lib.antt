@@ -1,5 +1,5 @@
 pub mod BoardKind
 pub mod Demand3
-pub mod Fed
+pub mod ByteCalls
 pub mod View
 pub mod Inner

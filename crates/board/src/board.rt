@@ -233,7 +233,7 @@ impl Board {
         ensures { λ r. ⌜ gave r (now (store .exit)) (now (reply .exit)) ≡ result (onCall boardKind (kind.byte b) (stateOf self) (now (store .entry)) (now (reply .entry))) (now (store .entry)) ⌝ }
     {
         let check = self.entry_check(store, reply.len() < packet::LEAST_BUFFER);
-        let EntryCheck::Idle = check else {
+        let EntryCheck::NonePending = check else {
             return self.refuses(check.refusal(Refusal::ErasePending));
         };
         self.accepts(store, b, reply)
@@ -244,7 +244,7 @@ impl Board {
         ensures { λ r. ⌜ gave r (now (store .entry)) [] ≡ result (onCall boardKind kind.gap (stateOf self) (now (store .entry)) []) (now (store .entry)) ⌝ }
     {
         let check = self.entry_check(store, false);
-        let EntryCheck::Idle = check else {
+        let EntryCheck::NonePending = check else {
             return self.refuses(check.refusal(Refusal::ErasePending));
         };
         self.len = 0;

@@ -1,14 +1,14 @@
 -- Laws of a call's answer told as numbers: what a call that is not refused tells, and where nothing of a state is written.
-use Prim.Native.Nat.{ℕ, suc, _≤_}
+use Prim.Native.Nat.{ℕ, _≤_}
 use mathlib.Core.Bool.{Bool, true, false, cond, _&&_, _||_}
-use mathlib.Core.List.{List, [], _∷_, _++_}
+use mathlib.Core.List.{List, []}
 use mathlib.Core.Path.{_≡_, refl, sym, ap, _∙_}
 use native.Mathlib.Omega.{arith}
 use types.Run.{OneOf, miss}
 use denote.Enum.Declared.{tagOf}
 use borrow.Author.Tests.{eqb-true, eqb-false, ne-eqb, lt-leb}
 use lib.Dec.{eqb, leb}
-use lib.ListN.{length, take, drop}
+use lib.ListN.{length}
 use Rattle.wire.specs.Refusal.{numberOf}
 use Rattle.wire.specs.declared.refusal.Refusal.{Refusal}
 use Rattle.calls.specs.Board as calls
@@ -18,21 +18,18 @@ use Rattle.board.specs.BoardKind.{Call, gap, lends, boardKind}
 use Rattle.packets.specs.View.{result, Result}
 use Rattle.board.specs.View.{stateOf, answerOf, answerKind, gave}
 use Rattle.board.specs.declared.board.Answer.{Answer}
+use Rattle.board.proofs.Answers.{allBut}
 use Rattle.board.proofs.board.Answer.{the-type}
 use Rattle.board.specs.declared.board.Board.{Board}
 use Rattle.board.specs.declared.board.Done.{Done}
 use Rattle.board.proofs.RefusalLaws.{Refused, unchanged, emptied, call-refused, step-refused}
 use Rattle.board_c.specs.State.{boardIn, stateBytes, stateIn}
 use Rattle.board_c.specs.Exports.{refusalAs, lengthAs, keepsAll, Leaves, Answers}
-use Rattle.board_c.specs.Inner.{Tells, Saves, Told}
+use Rattle.board_c.specs.Inner.{Places, Saves, AnswerTold}
 use Rattle.board_c.proofs.StateLaws.{Sized}
 use Rattle.board_c.proofs.Theorems.{board-back, other-size-refused}
 
 -- ---- answers by their places
-
--- the places of the seven answers, but one
-abbrev allBut : ℕ → List ℕ
-allBut n = let all : List ℕ = 0 ∷ 1 ∷ 2 ∷ 3 ∷ 4 ∷ 5 ∷ 6 ∷ [] in take n all ++ drop (suc n) all
 
 pub not-refused : (a : Answer) → OneOf (allBut 5) (tagOf the-type a) → false ≡ keepsAll (answerOf a)
 not-refused Answer.Waiting k = refl
@@ -44,7 +41,7 @@ not-refused (Answer.Refused r) k = absurd (miss (allBut 5) 5 tt k)
 not-refused (Answer.Reply n) k = refl
 
 pub neither-told : (a : Answer) (refusal size : ℕ) → OneOf (allBut 5) (tagOf the-type a) → OneOf (allBut 6) (tagOf the-type a)
-    → Tells (answerOf a) refusal refusal size size
+    → Places (answerOf a) refusal refusal size size
 neither-told Answer.Waiting refusal size k l = record { refused = refl; replied = refl }
 neither-told Answer.Silent refusal size k l = record { refused = refl; replied = refl }
 neither-told Answer.Begun refusal size k l = record { refused = refl; replied = refl }
@@ -53,10 +50,10 @@ neither-told Answer.Ended refusal size k l = record { refused = refl; replied = 
 neither-told (Answer.Refused r) refusal size k l = absurd (miss (allBut 5) 5 tt k)
 neither-told (Answer.Reply n) refusal size k l = absurd (miss (allBut 6) 6 tt l)
 
-pub refusal-told : (a : Answer) (r : Refusal) (refusal n size : ℕ) → a ≡ Answer.Refused r → n ≡ numberOf r → Tells (answerOf a) refusal n size size
+pub refusal-told : (a : Answer) (r : Refusal) (refusal n size : ℕ) → a ≡ Answer.Refused r → n ≡ numberOf r → Places (answerOf a) refusal n size size
 refusal-told a r refusal n size q e = rw q (record { refused = e; replied = refl })
 
-pub reply-told : (a : Answer) (refusal n size : ℕ) → a ≡ Answer.Reply n → Tells (answerOf a) refusal refusal size n
+pub reply-told : (a : Answer) (refusal n size : ℕ) → a ≡ Answer.Reply n → Places (answerOf a) refusal refusal size n
 reply-told a refusal n size q = rw q (record { refused = refl; replied = refl })
 
 pub refusal-kept : (a : Answer) (r : Refusal) (n : ℕ) → a ≡ Answer.Refused r → n ≡ numberOf r → (eqb n 1 || leb 9 n) ≡ keepsAll (answerOf a)
@@ -122,7 +119,7 @@ state-put b s e z = ap stateIn e ∙ ap stateOf (board-back b (z .serial) (z .mo
 -- ---- what a call leaves, as C sees it
 
 module _ (d : Done) (r refusal refusalAfter size sizeAfter : ℕ) (s after m mAfter lent lentAfter : List ℕ)
-    (told : Told d r refusal refusalAfter size sizeAfter s after) where
+    (told : AnswerTold d r refusal refusalAfter size sizeAfter s after) where
   whole : (o : BoardOutcome) → gave d mAfter lentAfter ≡ result o m → (keepsAll (o .answer) ≡ true → o .state ≡ stateIn s)
       → (keepsAll (o .answer) ≡ false → length s ≡ 111) → Answers o r refusal refusalAfter size sizeAfter s after m mAfter lentAfter
   whole o e kept room =
@@ -168,7 +165,7 @@ module _ (d : Done) (r refusal refusalAfter size sizeAfter : ℕ) (s after m mAf
 
 -- a gap has no buffer and no reply
 pub gap-leaves : (d : Done) (r refusal refusalAfter size sizeAfter : ℕ) (s after m mAfter : List ℕ)
-    → Told d r refusal refusalAfter size sizeAfter s after
+    → AnswerTold d r refusal refusalAfter size sizeAfter s after
     → (b : Board) → b ≡ boardIn s → gave d mAfter [] ≡ result (onCall boardKind gap (stateOf b) m []) m
     → Leaves (onCall boardKind gap (stateIn s) m []) r refusal refusalAfter s after
 gap-leaves d r refusal refusalAfter size sizeAfter s after m mAfter told b read e =

@@ -15,7 +15,7 @@ use Rattle.board.specs.declared.board.Board.{Board}
 use Rattle.calls.specs.Board.{placeOf}
 use Rattle.board.specs.View.{eraseOf}
 use Rattle.board_c.specs.State.{stateBytes, boardIn, countedItem, itemIn, eraseKind, eraseIn}
-use Rattle.board_c.specs.Inner.{identityBytes, progressBytes}
+use Rattle.board_c.specs.Inner.{identityPart, progressPart}
 use Rattle.board.specs.declared.board.Erase.{Erase}
 
 -- ---- a buffer written from its beginning
@@ -90,14 +90,14 @@ item-put t o r at q h =
 
 pub identity-put : (id : ℕ) (serial model : ItemBytes) (o s r : List ℕ)
     → s ≡ paste (set o 0 id) 1 (countedItem serial) (length (countedItem serial)) → r ≡ paste s 18 (countedItem model) (length (countedItem model))
-    → length o ≡ 111 → length (serial .bytes) ≡ 16 → r ≡ over (identityBytes id serial model) o
+    → length o ≡ 111 → length (serial .bytes) ≡ 16 → r ≡ over (identityPart id serial model) o
 identity-put id serial model o s r q w size l =
     let first = paste-over (id ∷ []) o 1 refl _ (countedItem serial) s (first-over o id (omega arith)) q in
     paste-over (id ∷ countedItem serial) o 18 (omega arith) s (countedItem model) r first w
 
 pub progress-put : (len : ℕ) (held : List ℕ) (erase : Erase) (kind place : ℕ) (o s : List ℕ)
     → s ≡ paste (set o 35 len) 36 held (length held) → kind ≡ eraseKind erase → place ≡ placeOf (eraseOf erase) → length o ≡ 111 → length held ≡ 73
-    → set (set s 109 kind) 110 place ≡ paste o 35 (progressBytes len held erase) (length (progressBytes len held erase))
+    → set (set s 109 kind) 110 place ≡ paste o 35 (progressPart len held erase) (length (progressPart len held erase))
 progress-put len held erase kind place o s q ek ep size l =
     let front = take 35 o in
     let end : length front ≡ 35 = length-take-le 35 o (omega arith) in
@@ -111,16 +111,16 @@ progress-put len held erase kind place o s q ek ep size l =
     let held-over = paste-over to-len o 36 len-end _ held s len-over q in
     let kind-over = set-over to-held o 109 held-end s kind (omega arith) held-over in
     let place-over = set-over to-kind o 110 kind-end _ place (omega arith) kind-over in
-    let parts : to-kind ++ (place ∷ []) ≡ front ++ progressBytes len held erase = simp append-assoc (rw (ek, ep)) in
-    behind-front o (progressBytes len held erase) _ 35 (omega arith) (place-over ∙ rw parts)
+    let parts : to-kind ++ (place ∷ []) ≡ front ++ progressPart len held erase = simp append-assoc (rw (ek, ep)) in
+    behind-front o (progressPart len held erase) _ 35 (omega arith) (place-over ∙ rw parts)
 
-pub board-put : (b : Board) (o s r : List ℕ) → s ≡ over (identityBytes (b .id) (b .serial) (b .model)) o
-    → r ≡ paste s 35 (progressBytes (b .len) (b .held) (b .erase)) (length (progressBytes (b .len) (b .held) (b .erase))) → length o ≡ 111
+pub board-put : (b : Board) (o s r : List ℕ) → s ≡ over (identityPart (b .id) (b .serial) (b .model)) o
+    → r ≡ paste s 35 (progressPart (b .len) (b .held) (b .erase)) (length (progressPart (b .len) (b .held) (b .erase))) → length o ≡ 111
     → Sized b → r ≡ stateBytes b
 unfolding stateBytes
 board-put b o s r q w size z =
-    let front = identityBytes (b .id) (b .serial) (b .model) in
-    let rest = progressBytes (b .len) (b .held) (b .erase) in
+    let front = identityPart (b .id) (b .serial) (b .model) in
+    let rest = progressPart (b .len) (b .held) (b .erase) in
     let end : length front ≡ 35 = simp length-append (omega (arith, z .serial, z .model)) in
     let all : length (front ++ rest) ≡ length o = simp length-append (omega (arith, z .serial, z .model, z .held)) in
     paste-over front o 35 end s rest r q w ∙ over-all (front ++ rest) o all ∙ simp append-assoc

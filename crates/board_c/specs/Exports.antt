@@ -66,13 +66,13 @@ startResult (board s es) = 0
 startResult (startRefused n) = n
 
 -- the state: the board's, or as it was
-abbrev pub StartState : Started BoardState → List ℕ → List ℕ → Type 0
-StartState (board s es) before after = stateIn after ≡ s
-StartState (startRefused n) before after = after ≡ before
+abbrev pub StateStarted : Started BoardState → List ℕ → List ℕ → Type 0
+StateStarted (board s es) before after = stateIn after ≡ s
+StateStarted (startRefused n) before after = after ≡ before
 
 pub record Starts (o : Started BoardState) (r : ℕ) (stateBefore stateAfter : List ℕ) : Type 0 where
   pub result : r ≡ startResult o
-  pub state : StartState o stateBefore stateAfter
+  pub state : StateStarted o stateBefore stateAfter
 
 -- ---- the unused store: 0, or 11 where the slice has not 128 bytes
 

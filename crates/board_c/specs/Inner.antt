@@ -1,4 +1,4 @@
--- What inner functions give. No promise of a public call cites it.
+-- What inner functions give. No contract of an entry point cites it.
 use mathlib.Core.Bool.{true, false}
 use mathlib.Core.List.{List, [], _∷_, _++_}
 use mathlib.Core.Path.{_≡_}
@@ -16,17 +16,17 @@ use Rattle.board_c.specs.Exports.{refusalAs, lengthAs, keepsAll}
 -- ---- the two parts of a state's bytes
 
 -- the first 35: ID, serial number and model
-abbrev pub identityBytes : ℕ → ItemBytes → ItemBytes → List ℕ
-identityBytes id serial model = id ∷ (countedItem serial ++ countedItem model)
+abbrev pub identityPart : ℕ → ItemBytes → ItemBytes → List ℕ
+identityPart id serial model = id ∷ (countedItem serial ++ countedItem model)
 
 -- the other 76: the held bytes behind their count, and the erase
-abbrev pub progressBytes : ℕ → List ℕ → Erase → List ℕ
-progressBytes len held erase = len ∷ (held ++ (eraseKind erase ∷ placeOf (eraseOf erase) ∷ []))
+abbrev pub progressPart : ℕ → List ℕ → Erase → List ℕ
+progressPart len held erase = len ∷ (held ++ (eraseKind erase ∷ placeOf (eraseOf erase) ∷ []))
 
 -- ---- an answer told
 
 -- the place for a refusal, and the place for a reply's length
-pub record Tells (a : Answer ℕ) (refusal refusal′ size size′ : ℕ) : Type 0 where
+pub record Places (a : Answer ℕ) (refusal refusal′ size size′ : ℕ) : Type 0 where
   pub refused : refusal′ ≡ refusalAs a refusal
   pub replied : size′ ≡ lengthAs a size
 
@@ -36,7 +36,7 @@ pub record Saves (a : Answer ℕ) (b : Board) (s s′ : List ℕ) : Type 0 where
   pub next : keepsAll a ≡ false → length s ≡ 111 → stateIn s′ ≡ stateOf b
 
 -- the result, the places, and the state
-pub record Told (d : Done) (r refusal refusal′ size size′ : ℕ) (s s′ : List ℕ) : Type 0 where
+pub record AnswerTold (d : Done) (r refusal refusal′ size size′ : ℕ) (s s′ : List ℕ) : Type 0 where
   pub result : r ≡ answerKind (answerOf (d .answer))
-  pub places : Tells (answerOf (d .answer)) refusal refusal′ size size′
+  pub places : Places (answerOf (d .answer)) refusal refusal′ size size′
   pub state : Saves (answerOf (d .answer)) (d .board) s s′

@@ -9,9 +9,9 @@ ghost use Rattle.board.specs.BoardKind.{boardKind};
 ghost use Rattle.board.specs.View.{stateOf, answerOf, givenIdentity};
 ghost use Rattle.board_c.specs.State.{stateIn};
 ghost use Rattle.board_c.specs.Exports.{keepsAll, Leaves, Answers, startIn, Starts, unusedResult, unusedIn};
-ghost use Rattle.board_c.specs.Inner.{Tells, Saves, Told};
+ghost use Rattle.board_c.specs.Inner.{Places, Saves, AnswerTold};
 use crate::state;
-use board::board as inner;
+use board::board as on_board;
 use board::board::Answer;
 use board::board::Board;
 use board::board::Done;
@@ -29,7 +29,7 @@ pub extern "C" fn board_start(
 ) -> u8
     ensures { λ r. ⌜ Starts (startIn (length (now (state .entry))) (onStart boardKind (givenIdentity id (now (serial .entry)) (now (model .entry))) (now (store .entry)))) r (now (state .entry)) (now (state .exit)) × (now (store .exit) ≡ now (store .entry)) ⌝ }
 {
-    let started = inner::start(store, id, serial, model);
+    let started = on_board::start(store, id, serial, model);
     let answer = started.answer;
     if let StartAnswer::Refused(refusal) = answer {
         return refusal.number();
@@ -95,7 +95,7 @@ pub extern "C" fn board_unused(store: &mut [u8]) -> u8
 
 // The kind of an answer; a refusal's number and a reply's length in their places, and the next state, but where nothing changes.
 fn answered(done: Done, state: &mut [u8], size: &mut usize, refusal: &mut u8) -> u8
-    ensures { λ r. ⌜ Told done r (now (refusal .entry)) (now (refusal .exit)) (now (size .entry)) (now (size .exit)) (now (state .entry)) (now (state .exit)) ⌝ }
+    ensures { λ r. ⌜ AnswerTold done r (now (refusal .entry)) (now (refusal .exit)) (now (size .entry)) (now (size .exit)) (now (state .entry)) (now (state .exit)) ⌝ }
 {
     let answer = done.answer;
     let next = done.board;
@@ -138,7 +138,7 @@ fn put_state(board: Board, state: &mut [u8])
 
 // A refusal's number and a reply's length go to their places where there is one.
 fn tell(answer: Answer, size: &mut usize, refusal: &mut u8)
-    ensures { λ _. ⌜ Tells (answerOf answer) (now (refusal .entry)) (now (refusal .exit)) (now (size .entry)) (now (size .exit)) ⌝ }
+    ensures { λ _. ⌜ Places (answerOf answer) (now (refusal .entry)) (now (refusal .exit)) (now (size .entry)) (now (size .exit)) ⌝ }
 {
     if let Answer::Refused(why) = answer {
         *refusal = why.number();

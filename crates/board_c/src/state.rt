@@ -5,7 +5,7 @@ ghost use lib.ListN.{length};
 ghost use lib.Seq.{paste};
 ghost use Rattle.wire.specs.Packet.{over};
 ghost use Rattle.board_c.specs.State.{boardIn, eraseIn, stateBytes, eraseKind, itemIn, countedItem};
-ghost use Rattle.board_c.specs.Inner.{identityBytes, progressBytes};
+ghost use Rattle.board_c.specs.Inner.{identityPart, progressPart};
 use board::board::Board;
 use board::board::Erase;
 use store::contents::ItemBytes;
@@ -52,7 +52,7 @@ pub fn put_board(board: Board, state: &mut [u8])
 // Writes ID, serial number and model at the start of a state.
 fn put_identity(id: u8, serial: ItemBytes, model: ItemBytes, state: &mut [u8])
     requires { ⌜ length (now state) ≡ 111 ⌝ }
-    ensures { λ _. ⌜ now (state .exit) ≡ over (identityBytes id serial model) (now (state .entry)) ⌝ }
+    ensures { λ _. ⌜ now (state .exit) ≡ over (identityPart id serial model) (now (state .entry)) ⌝ }
 {
     state[0] = id;
     put_item(serial, state, 1);
@@ -62,7 +62,7 @@ fn put_identity(id: u8, serial: ItemBytes, model: ItemBytes, state: &mut [u8])
 // Writes the held bytes behind their count, and the erase, at the end of a state.
 fn put_progress(len: u8, held: [u8; packet::MOST_PACKET], erase: Erase, state: &mut [u8])
     requires { ⌜ length (now state) ≡ 111 ⌝ }
-    ensures { λ _. ⌜ now (state .exit) ≡ paste (now (state .entry)) 35 (progressBytes len held erase) (length (progressBytes len held erase)) ⌝ }
+    ensures { λ _. ⌜ now (state .exit) ≡ paste (now (state .entry)) 35 (progressPart len held erase) (length (progressPart len held erase)) ⌝ }
 {
     state[35] = len;
     digits::put_bytes(state, 36, &held);

@@ -9,7 +9,7 @@ use lib.ListN.{length}
 use Rattle.wire.proofs.Tests.{cond-by}
 use Rattle.calls.specs.Board.{Erase, idle, pending, isPending, placeOf, owedOf}
 use Rattle.calls.specs.Kind.{Kind}
-use Rattle.calls.specs.Calls.{isShort, EntryCheck, refusedEntry, idleEntry, pendingEntry, entryCheck, Board, Left, refuse, isSound, entryCheckOf, callOn, onCall, clearStep, endStep, eraseStep, stepOn, onStep}
+use Rattle.calls.specs.Calls.{isShort, EntryCheck, refusedEntry, nonePendingEntry, pendingEntry, entryCheck, Board, Left, refuse, isSound, entryCheckOf, callOn, onCall, clearStep, endStep, eraseStep, stepOn, onStep}
 
 -- the checks in their order, and the refusal by each
 pub record Refusals (K : Kind) : Type 0 where
@@ -48,7 +48,7 @@ pub record Passed (short sound erasePending wanted : Bool) : Type 0 where
 -- whether an erase is pending, as an entry tells it
 abbrev Tells : EntryCheck → (short sound erasePending : Bool) → Type 0
 Tells (refusedEntry n) short sound erasePending = Unit {0}
-Tells idleEntry short sound erasePending = Passed short sound erasePending false
+Tells nonePendingEntry short sound erasePending = Passed short sound erasePending false
 Tells pendingEntry short sound erasePending = Passed short sound erasePending true
 
 entry-tells : (short sound erasePending : Bool) → Tells (entryCheck short sound erasePending) short sound erasePending
@@ -58,7 +58,7 @@ entry-tells false false erasePending = tt
 entry-tells false true false = record { long = refl; is-sound = refl; phase = refl }
 entry-tells false true true = record { long = refl; is-sound = refl; phase = refl }
 
-pub idle-passed : (short sound erasePending : Bool) → entryCheck short sound erasePending ≡ idleEntry → Passed short sound erasePending false
+pub idle-passed : (short sound erasePending : Bool) → entryCheck short sound erasePending ≡ nonePendingEntry → Passed short sound erasePending false
 idle-passed short sound erasePending e = rw e at (entry-tells short sound erasePending)
 
 pub pending-passed : (short sound erasePending : Bool) → entryCheck short sound erasePending ≡ pendingEntry → Passed short sound erasePending true

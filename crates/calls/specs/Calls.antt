@@ -38,12 +38,12 @@ isShort lent = ltb (length lent) leastBuffer
 -- a call is refused, or goes on: with no erase pending, or with one
 pub data EntryCheck : Type 0 where
   refusedEntry : ℕ → EntryCheck
-  idleEntry pendingEntry : EntryCheck
+  nonePendingEntry pendingEntry : EntryCheck
 
 -- 10 for a short lent buffer, then 12 for a board that is not sound; what follows goes by whether an erase is pending
 unfoldable pub entryCheck : (short sound erasePending : Bool) → EntryCheck
 entryCheck short sound erasePending =
-    cond short (refusedEntry 10) (cond (not sound) (refusedEntry 12) (cond erasePending pendingEntry idleEntry))
+    cond short (refusedEntry 10) (cond (not sound) (refusedEntry 12) (cond erasePending pendingEntry nonePendingEntry))
 
 module _ (K : Kind) where
   abbrev pub Board : Type 0
@@ -82,7 +82,7 @@ module _ (K : Kind) where
   unfoldable pub callOn : EntryCheck → K .Call → Board → List ℕ → List ℕ → Left
   callOn (refusedEntry n) c s m lent = refuse n s lent
   callOn pendingEntry c s m lent = refuse 9 s lent
-  callOn idleEntry c s m lent = K .does c s m lent
+  callOn nonePendingEntry c s m lent = K .does c s m lent
 
   unfoldable pub onCall : K .Call → Board → List ℕ → List ℕ → Left
   onCall c s m lent = callOn (entryCheckOf (K .lends c && isShort lent) s m) c s m lent
@@ -109,7 +109,7 @@ module _ (K : Kind) where
 
   unfoldable pub stepOn : EntryCheck → Board → List ℕ → Left
   stepOn (refusedEntry n) s lent = refuse n s lent
-  stepOn idleEntry s lent = refuse 13 s lent
+  stepOn nonePendingEntry s lent = refuse 13 s lent
   stepOn pendingEntry s lent = eraseStep (placeOf (s .erase)) (owedOf (K .noneOwed) (s .erase)) s lent
 
   unfoldable pub onStep : Board → List ℕ → List ℕ → Left

@@ -5,5 +5,5 @@ use Rattle.calls.specs.declared.EntryCheck.{EntryCheck}
 abbrev pub entryCheckAs : EntryCheck → calls.EntryCheck
 entryCheckAs EntryCheck.ShortBuffer = calls.refusedEntry 10
 entryCheckAs EntryCheck.Unsound = calls.refusedEntry 12
-entryCheckAs EntryCheck.Idle = calls.idleEntry
+entryCheckAs EntryCheck.NonePending = calls.nonePendingEntry
 entryCheckAs EntryCheck.Pending = calls.pendingEntry

@@ -15,7 +15,7 @@ pub const ERASE_MARK: u8 = 0xE7;
 pub enum EntryCheck {
     ShortBuffer,
     Unsound,
-    Idle,
+    NonePending,
     Pending,
 }
 
@@ -31,7 +31,7 @@ impl EntryCheck {
             EntryCheck::Unsound => {
                 return Refusal::Unsound;
             }
-            EntryCheck::Idle => {
+            EntryCheck::NonePending => {
                 return by_erase;
             }
             EntryCheck::Pending => {
@@ -54,7 +54,7 @@ pub fn entry_check(short: bool, sound: bool, pending: bool) -> EntryCheck
     if pending {
         return EntryCheck::Pending;
     }
-    EntryCheck::Idle
+    EntryCheck::NonePending
 }
 
 // Whether bytes 1 to p - 1 of a store are those of the unused one.

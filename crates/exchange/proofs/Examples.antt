@@ -29,7 +29,7 @@ use Rattle.actions.specs.Act.{replies, getEffect, setEffect, powerReadEffect, e
 use Rattle.packets.specs.Packets.{isIdentity, replyWith, replyFrom, addressee, toOwn, onPacketTo, onPacket, BoardOutcome}
 use Rattle.board.specs.BoardKind.{eraseReply, boardKind}
 use Rattle.board.specs.Demand3.{unusedBytes}
-use Rattle.board.specs.Fed.{byteCalls, waits, seenThen}
+use Rattle.board.specs.ByteCalls.{byteCalls, waits, seenThen}
 use Rattle.board.proofs.PacketFed.{packet-fed}
 use Rattle.station.specs.Encode.{sends, isInRange, addressIn, encodingTo, encodingOf}
 use Rattle.station.specs.declared.encode.Destination.{Destination}

@@ -18,7 +18,7 @@ use Rattle.messages.proofs.RoundTrips.{request-back, request-type, request-leng
 use Rattle.calls.specs.Board.{Identity}
 use Rattle.calls.specs.Lists.{run}
 use Rattle.actions.specs.Act.{effectOf, effect}
-use Rattle.board.specs.Fed.{byteCalls, waits, seenThen}
+use Rattle.board.specs.ByteCalls.{byteCalls, waits, seenThen}
 use Rattle.packets.specs.Packets.{BoardState, addressee, onPacketTo, onPacket}
 use Rattle.board.specs.BoardKind.{boardKind}
 use Rattle.board.specs.Demand3.{Events}

@@ -22,7 +22,7 @@ use Rattle.calls.specs.Board.{Identity, reply, idle}
 use Rattle.calls.specs.Calls.{isSound, onCall, onStep}
 use Rattle.calls.specs.Lists.{run}
 use Rattle.actions.specs.Act.{replies, says, effectOf, effect}
-use Rattle.board.specs.Fed.{byteCalls, waits, seenThen}
+use Rattle.board.specs.ByteCalls.{byteCalls, waits, seenThen}
 use Rattle.packets.specs.Packets.{BoardState, BoardOutcome, toOwn, toAll}
 use Rattle.board.specs.BoardKind.{byte, boardKind}
 use Rattle.board.specs.Demand3.{Events}

@@ -16,7 +16,7 @@ use Rattle.board.specs.BoardKind.{boardKind}
 use Rattle.board.specs.Demand3.{unusedBytes}
 use Rattle.station.specs.Encode.{sends, encoding}
 use Rattle.station.specs.declared.encode.Destination.{Destination}
-use Rattle.board.specs.Fed.{byteCalls, waits}
+use Rattle.board.specs.ByteCalls.{byteCalls, waits}
 
 -- ID 1, serial number and model empty
 abbrev pub one : Identity

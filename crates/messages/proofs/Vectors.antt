@@ -3,7 +3,9 @@ use Prim.Native.Nat.{ℕ}
 use mathlib.Core.List.{List, [], _∷_, map}
 use mathlib.Core.Option.{Option, none, some, bind}
 use mathlib.Core.Path.{_≡_, refl}
+use lib.ListN.{take, drop}
 use Rattle.wire.specs.Digits.{hexOf, valueOf, twoAt, fourAt, unhex, octetsIn}
+use Rattle.wire.specs.Packet.{covered, zeroByte, typeA}
 use Rattle.messages.specs.Message.{Request, Reply}
 use Rattle.messages.specs.Message.Request.{getParameter, setParameter, powerRead, powerControl, dateRead, dateWrite, itemRead, tagWrite}
 use Rattle.messages.specs.Message.Reply.{null, getReply, setReply, powerReadReply, powerControlReply, dateReadReply, dateWriteReply, itemReply, tagWriteReply}
@@ -88,6 +90,12 @@ pub request-texts : map (λ (row : Request × List ℕ). requestType (row .0) �
     ≡ map (λ (row : Request × List ℕ). row .1) requests
 unfolding requestType requestText dateText hexOf
 request-texts = refl
+
+-- 000 prints 12h as the length of a date write, whose message has 20 bytes (PK6)
+pub date-write-length : (dest : ℕ) (d : Date)
+    → take 2 (drop 4 (covered dest zeroByte typeA (requestText (dateWrite d)))) ≡ 0x31 ∷ 0x34 ∷ []
+unfolding requestText dateText
+date-write-length dest d = refl
 
 abbrev replies : List (Reply × List ℕ)
 replies =

@@ -33,7 +33,7 @@ isName name t = eqb (length t) (length name) && beginsWith name t
 unfoldable pub flagAt : List ℕ → ℕ → Option ℕ
 flagAt t at = bind (twoAt t at) λ n. cond (leb n 1) (some n) none
 
--- the mode of a power status
+-- the mode of a power status: 1, 2 or 4
 unfoldable pub modeAt : List ℕ → ℕ → Option ℕ
 modeAt t at = bind (fourAt t at) λ n. cond (isPowerMode n) (some n) none
 

@@ -1,7 +1,7 @@
 -- What a good packet stores, request by request, by the store's laws: few bytes, within the store, not the mark, and every field stays in range.
 use mathlib.Core.Path.{_≡_, refl, _∙_, subst}
 use mathlib.Core.Bool.{true, _&&_}
-use mathlib.Core.List.{List, []}
+use mathlib.Core.List.{List, [], _∷_}
 use mathlib.Core.Logic.{inl}
 use mathlib.Core.Option.{Option, none, some}
 use Prim.Native.Nat.{ℕ, _≤_}
@@ -22,9 +22,9 @@ use Rattle.store.specs.Layout.{power, fieldsInRange}
 use Rattle.store.specs.Settings.{fieldOf, settingAt, accepts, kept}
 use Rattle.store.specs.Contents.{isOn, isStorable, isAccepted, dateStores, tagStores}
 use Rattle.store.specs.declared.settings.Row.{Row}
-use Rattle.store.proofs.StoreLaws.{isField, field-placed, field-keeps-mark, in-range-write, field-applied, field-few, field-within}
+use Rattle.store.proofs.StoreLaws.{SpareKept, isField, field-placed, field-keeps-mark, field-keeps-spare, in-range-write, field-applied, field-few, field-within}
 use Rattle.store.proofs.SettingLaws.{setting-listed, setting-field, kept-fits}
-use Rattle.store.proofs.DateLaws.{date-keeps-byte, in-range-date, date-applied, date-count, date-within}
+use Rattle.store.proofs.DateLaws.{date-keeps-byte, date-keeps-spare, in-range-date, date-applied, date-count, date-within}
 use Rattle.store.proofs.TagLaws.{tag-count, tag-within, tag-written, in-range-tag}
 use Rattle.calls.specs.Board.{Identity}
 use Rattle.actions.specs.Act.{
@@ -77,19 +77,24 @@ request-few kind t = option-few (requestIn kind t) (request-fits kind t)
 
 -- ---- what the stores of a request keep
 
--- entries that a plan and the store can take, that leave the mark, and every field in range
+-- entries that a plan and the store can take, that leave the mark, the spare bits and bytes, and every field in range
 pub record Keeps (m : List ℕ) (es : List Entry) : Type 0 where
   pub ready : Committable 128 es
   pub mark : getD (applied es m) 0 0 ≡ getD m 0 0
+  pub spare : SpareKept m (applied es m)
   pub ranged : fieldsInRange (applied es m) ≡ true
 
 abbrev pub Kept : List ℕ → Effect → Type 0
 Kept m (replies r es) = Keeps m es
 Kept m begins = Unit {0}
 
+within-head : (es : List Entry) → Within 12 es → Within 128 es
+within-head [] w = tt
+within-head (e ∷ es) w = (omega arith, within-head es (w .1))
+
 module _ (m : List ℕ) (size : length m ≡ 128) (ranged : fieldsInRange m ≡ true) where
   none-keeps : Keeps m []
-  none-keeps = record { ready = record { few = omega arith; within = tt }; mark = refl; ranged = ranged }
+  none-keeps = record { ready = record { few = omega arith; within = tt }; mark = refl; spare = record { bits = refl; bytes = λ j h. refl }; ranged = ranged }
 
   -- one field
   field-keeps : (f : Field) (v : ℕ) → isField f ≡ true → fits f v ≡ true → Keeps m (fieldStores m f v)
@@ -99,6 +104,7 @@ module _ (m : List ℕ) (size : length m ≡ 128) (ranged : fieldsInRange m ≡ 
       record {
         ready = record { few = omega (arith, field-few m f v e); within = field-within m f v e };
         mark = rw is (field-keeps-mark m f v e);
+        spare = rw is (field-keeps-spare m f v e);
         ranged = rw is (in-range-write m f v e (omega arith) h ranged);
       }
 
@@ -108,8 +114,9 @@ module _ (m : List ℕ) (size : length m ≡ 128) (ranged : fieldsInRange m ≡ 
       let is = date-applied m d in
       let storable = both (isStorable d) (eqb (d .daylight) 0) h .0 in
       record {
-        ready = record { few = omega (arith, date-count m d (omega arith)); within = date-within m d };
+        ready = record { few = omega (arith, date-count m d (omega arith)); within = within-head (dateStores m d) (date-within m d) };
         mark = rw is (date-keeps-byte m d 0 (inl (omega arith)));
+        spare = rw is (date-keeps-spare m d);
         ranged = rw is (in-range-date m d (omega arith) storable ranged);
       }
 
@@ -118,6 +125,7 @@ module _ (m : List ℕ) (size : length m ≡ 128) (ranged : fieldsInRange m ≡ 
       record {
         ready = record { few = omega (arith, tag-count m tag size h); within = tag-within m tag size h };
         mark = tag-written m tag size h .outside 0 (inl (omega arith));
+        spare = tag-written m tag size h .spare;
         ranged = in-range-tag m tag size h ranged;
       }
 

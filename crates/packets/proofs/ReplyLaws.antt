@@ -75,8 +75,8 @@ name-length Item.Tag = refl
 name-length Item.FormerTag = refl
 
 -- a text in the store is no longer than its length field says
-text-few : (m : List ℕ) (f : Field) (at : ℕ) → isField f ≡ true → f .most ≡ 16 → fieldsInRange m ≡ true → length (take (read m f) (drop at m)) ≤ 16
-text-few m f at e most r =
+tag-few : (m : List ℕ) (f : Field) (at : ℕ) → isField f ≡ true → f .most ≡ 16 → fieldsInRange m ≡ true → length (take (read m f) (drop at m)) ≤ 16
+tag-few m f at e most r =
     let h = both (leb (f .least) (read m f)) (leb (read m f) (f .most)) (in-range-one m f r e) in
     let k = leb-true (read m f) (f .most) (h .1) in
     rw length-take (omega (arith, min-le-left (read m f) (length (drop at m))))
@@ -86,8 +86,8 @@ module _ (i : Identity) (m : List ℕ) (n : Named i) (ranged : fieldsInRange m �
   unfolding tagOf formerTagOf
   item-few Item.Serial = n .serial
   item-few Item.Model = n .model
-  item-few Item.Tag = text-few m tagLength tagPlace refl refl ranged
-  item-few Item.FormerTag = text-few m formerLength formerTagPlace refl refl ranged
+  item-few Item.Tag = tag-few m tagLength tagPlace refl refl ranged
+  item-few Item.FormerTag = tag-few m formerLength formerTagPlace refl refl ranged
 
   get-fits : (page code : ℕ) (q : Option Row) → Fitting (getListed m page code q)
   unfolding replyText parameterText

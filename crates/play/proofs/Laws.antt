@@ -4,15 +4,15 @@ use denote.Enum.Declared.{tagOf}
 use mathlib.Core.Bool.{true, false, true≢false}
 use mathlib.Core.List.{List, [], _∷_, _++_, append-assoc}
 use mathlib.Core.Path.{_≡_, refl, ap, _∙_}
-use Prim.Native.Nat.{ℕ, suc, _+_, _≤_, _<_}
+use Prim.Native.Nat.{ℕ, _+_, _≤_, _<_}
 use native.Mathlib.Omega.{arith}
 use borrow.Author.Tests.{le-ltb, lt-ltb, ne-eqb}
-use lib.ListN.{length, set, take, drop, length-append}
+use lib.ListN.{length, set, drop, length-append}
 use lib.Seq.{drop-drop, drop-at}
 use Rattle.wire.specs.Packet.{over}
 use Rattle.wire.specs.Refusal.{numberOf}
 use Rattle.calls.specs.Board.{Identity, after}
-use Rattle.calls.specs.Calls.{EntryCheck, refusedEntry, idleEntry, pendingEntry, refuse, entryCheckOf, callOn, onCall, onStep, onStart}
+use Rattle.calls.specs.Calls.{EntryCheck, refusedEntry, nonePendingEntry, pendingEntry, refuse, entryCheckOf, callOn, onCall, onStep, onStart}
 use Rattle.calls.specs.Lists.{Event, call, step, cut, answered, seen, from, run}
 use Rattle.packets.specs.Packets.{BoardState, BoardOutcome}
 use Rattle.board.specs.BoardKind.{Call, byte, gap, does, boardKind}
@@ -23,6 +23,7 @@ use Rattle.board.specs.declared.board.Answer.{Answer}
 use Rattle.board.specs.declared.board.Done.{Done}
 use Rattle.board.specs.declared.board.Started.{Started}
 use Rattle.board.specs.declared.board.StartAnswer.{StartAnswer}
+use Rattle.board.proofs.Answers.{allBut}
 use Rattle.board.proofs.board.Answer.{the-type}
 use Rattle.wire.specs.declared.refusal.Refusal.{Refusal}
 use Rattle.play.specs.Play.{eventOf, numberIn}
@@ -31,10 +32,6 @@ use Rattle.play.specs.declared.Seen.{Seen}
 use Rattle.play.specs.declared.Turn.{Turn}
 
 -- ---- the number in an answer
-
--- the places of the seven answers, but one
-abbrev allBut : ℕ → List ℕ
-allBut n = let all : List ℕ = 0 ∷ 1 ∷ 2 ∷ 3 ∷ 4 ∷ 5 ∷ 6 ∷ [] in take n all ++ drop (suc n) all
 
 pub refusal-number : (a : Answer) (r : Refusal) (n : ℕ) → a ≡ Answer.Refused r → n ≡ numberOf r → n ≡ numberIn (answerOf a)
 refusal-number a r n e q = rw e q
@@ -113,7 +110,7 @@ module _ (s : BoardState) (m lent : List ℕ) where
   gap-as : (x : EntryCheck) → lentAs lent (result (callOn boardKind x gap s m []) m) ≡ result (callOn boardKind x gap s m lent) m
   unfolding callOn refuse does
   gap-as (refusedEntry n) = refl
-  gap-as idleEntry = refl
+  gap-as nonePendingEntry = refl
   gap-as pendingEntry = refl
 
   -- a gap leaves any lent buffer as it is, and is the same with all

@@ -21,7 +21,7 @@ use Rattle.board.specs.Demand3.{Events, Trace}
 use Rattle.board.specs.View.{stateOf}
 use Rattle.board.specs.declared.board.Board.{Board}
 use Rattle.play.specs.Play.{eventOf, partOf, eventsIn, logEntry, logOf, lentsOf, leftBy, Plays}
-use Rattle.play.specs.Inner.{seenOf, goesOn, traceWith, traceOf, Turns, Enters, Leaves, PlaysFirst, PlaysRest}
+use Rattle.play.specs.Inner.{seenOf, goesOn, traceWith, traceOf, Turns, Enters, LeavesRoom, PlaysFirst, PlaysRest}
 use Rattle.play.specs.declared.First.{First}
 use Rattle.play.specs.declared.Seen.{Seen}
 use Rattle.play.specs.declared.Turn.{Turn}
@@ -265,7 +265,7 @@ with-rest-rest a xs ys h = rw (with-rest-is a xs ys) (drop-at (take a xs) ys a (
 pub plays-rest : (f : First) (i : Identity) (es m m′ lent rest log log′ : List ℕ)
     → Plays (run boardKind i (stateOf (f .board)) m (eventsIn (length m) (length (restOf (length m + 2) log)) (restOf 2 es) (restOf (f .part) lent)))
     m m′ (restOf (f .part) lent) rest (restOf (length m + 2) log) log′
-    → Leaves f es m lent log → PlaysRest f i es m m′ lent (withRest (f .part) lent rest) log (withRest (length m + 2) log log′)
+    → LeavesRoom f es m lent log → PlaysRest f i es m m′ lent (withRest (f .part) lent rest) log (withRest (length m + 2) log log′)
 plays-rest f i es m m′ lent rest log log′ p l =
     record {
       plays =

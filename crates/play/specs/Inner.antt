@@ -1,4 +1,4 @@
--- What inner functions give. No promise of a public call cites it.
+-- What inner functions give. No contract of an entry point cites it.
 use mathlib.Core.Bool.{Bool, true, false}
 use mathlib.Core.List.{List, [], _∷_}
 use mathlib.Core.Path.{_≡_}
@@ -55,7 +55,7 @@ pub record Enters (s : Seen) (more : Bool) (m log log′ : List ℕ) : Type 0 wh
   pub entered : (lent : List ℕ) → log′ ≡ over (logEntry (seenOf s m lent)) log
 
 -- a first event leaves room for the others: its two numbers, its part of what is lent and its entry are there
-pub record Leaves (f : First) (es m lent log : List ℕ) : Type 0 where
+pub record LeavesRoom (f : First) (es m lent log : List ℕ) : Type 0 where
   pub two : 2 ≤ length es
   pub part : f .part ≤ length lent
   pub room : length m + 2 ≤ length log
@@ -72,6 +72,6 @@ pub record PlaysRest (f : First) (i : Identity) (es m m′ lent lent′ log log�
 -- what plays the rest plays the list.
 pub record PlaysFirst (f : First) (i : Identity) (s : BoardState) (es m m′ lent lent′ log log′ : List ℕ) : Type 0 where
   pub ends : f .more ≡ false → Plays (run boardKind i s m (eventsIn (length m) (length log) es lent)) m m′ lent lent′ log log′
-  pub leaves : f .more ≡ true → Leaves f es m′ lent′ log′
+  pub leaves : f .more ≡ true → LeavesRoom f es m′ lent′ log′
   pub goes : f .more ≡ true → (m″ lent″ log″ : List ℕ) → PlaysRest f i es m′ m″ lent′ lent″ log′ log″
       → Plays (run boardKind i s m (eventsIn (length m) (length log) es lent)) m m″ lent lent″ log log″

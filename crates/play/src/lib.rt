@@ -9,7 +9,7 @@ ghost use Rattle.board.specs.View.{stateOf, answerOf, givenIdentity};
 ghost use Rattle.board.specs.BoardKind.{boardKind};
 ghost use Rattle.calls.specs.Lists.{run};
 ghost use Rattle.play.specs.Play.{eventOf, eventsIn, partOf, numberIn, Plays};
-ghost use Rattle.play.specs.Inner.{Turns, Restarts, Enters, Leaves, PlaysFirst, PlaysRest};
+ghost use Rattle.play.specs.Inner.{Turns, Restarts, Enters, LeavesRoom, PlaysFirst, PlaysRest};
 use board::board::Answer;
 use board::board::Board;
 use board::board::Done;
@@ -126,7 +126,7 @@ fn play_rest(
     lent: &mut [u8],
     log: &mut [usize],
 )
-    requires { ⌜ Leaves first (now events) (now store) (now lent) (now log) ⌝ }
+    requires { ⌜ LeavesRoom first (now events) (now store) (now lent) (now log) ⌝ }
     ensures { λ _. ⌜ PlaysRest first (givenIdentity id (now (serial .entry)) (now (model .entry))) (now (events .entry)) (now (store .entry)) (now (store .exit)) (now (lent .entry)) (now (lent .exit)) (now (log .entry)) (now (log .exit)) ⌝ }
 {
     let next = first.board;

@@ -60,7 +60,7 @@ fn give_all(
     let mut i: usize = 0;
     while i < bytes.len() {
         used = with_room(used, out);
-        at = counted(at);
+        at = one_more(at);
         let given = give(out, used, board, store, at, bytes[i], reply);
         board = given.board;
         used = given.length;
@@ -109,6 +109,6 @@ fn with_room(used: usize, out: &[u8]) -> usize
 }
 
 // The number of bytes after one more; the largest number stays.
-fn counted(at: u64) -> u64 {
+fn one_more(at: u64) -> u64 {
     if at < u64::MAX { at + 1 } else { at }
 }

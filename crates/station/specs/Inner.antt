@@ -1,4 +1,4 @@
--- What inner functions give. No promise of a public call cites it.
+-- What inner functions give. No contract of an entry point cites it.
 use mathlib.Core.Bool.{Bool}
 use mathlib.Core.List.{List}
 use mathlib.Core.Option.{Option, none, some}

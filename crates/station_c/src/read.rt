@@ -213,17 +213,7 @@ fn put_item(out: &mut [u8], item: &[u8], count: u8) -> usize
     requires { ⌜ length (now item) ≤ length (now out) ⌝ }
     ensures { λ r. ⌜ PutsItem count (now (item .entry)) r (now (out .entry)) (now (out .exit)) ⌝ }
 {
-    let n = counted(item, count as usize);
+    let n = digits::at_most(item, count as usize);
     digits::put_bytes(out, 0, &item[..n]);
     n
-}
-
-// A count of bytes, or how many there are where that is less.
-fn counted(bytes: &[u8], count: usize) -> usize
-    ensures { λ r. ⌜ (r ≤ length (now (bytes .entry))) × (take r (now (bytes .entry)) ≡ take count (now (bytes .entry))) ⌝ }
-{
-    if bytes.len() < count {
-        return bytes.len();
-    }
-    count
 }

@@ -193,6 +193,6 @@ pub date-count : (m : List ℕ) (d : Date) → 12 ≤ length m → length (dateS
 unfolding dateStores
 date-count m d l = around-length 54 30 (withDate m d) (omega (arith, date-length m d))
 
-pub date-within : (m : List ℕ) (d : Date) → Within 128 (dateStores m d)
+pub date-within : (m : List ℕ) (d : Date) → Within 12 (dateStores m d)
 unfolding dateStores
-date-within m d = around-within 128 54 30 (withDate m d) (omega arith)
+date-within m d = around-within 12 54 30 (withDate m d) (omega arith)

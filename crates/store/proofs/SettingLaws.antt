@@ -8,7 +8,7 @@ use Prim.Native.Nat.{ℕ, zero, suc, _+_, _*_, _^_, _≤_, _<_}
 use native.Mathlib.Omega.{arith}
 use lib.Dec.{leb, eqb}
 use lib.ListN.{length}
-use borrow.Author.Tests.{leb-true, le-leb, eqb-true, eq-eqb}
+use borrow.Author.Tests.{leb-true, le-leb, eqb-true, eq-eqb, not-true}
 use Rattle.bitfield.specs.Field.{Apart, Inside}
 use Rattle.bitfield.proofs.Laws.{get-put-other}
 use Rattle.wire.proofs.Tests.{cond-by, both}
@@ -64,16 +64,12 @@ same-or-apart-row r t m n =
 abbrev isOther : Row → Row → Bool
 isOther r t = not (isAt (t .page) (t .code) r)
 
-not-false : (b : Bool) → not b ≡ true → b ≡ false
-not-false true e = absurd (false≢true e)
-not-false false e = refl
-
 own-pair : (rs : List Row) (r : Row) → pairwise isOther rs ≡ true → List·Memᴰ r rs → rowIn (r .page) (r .code) rs ≡ some r
 own-pair [] r e m = absurd (List·Memᴰ·not-nil m)
 own-pair (t ∷ ts) r e m =
     let b = both (each (isOther t) ts) (pairwise isOther ts) e in
     ⊎-elim (λ q. rw (← q, eq-eqb (r .page) (r .page) refl, eq-eqb (r .code) (r .code) refl))
-    (λ n. rw (not-false (isAt (r .page) (r .code) t) (each-member (isOther t) ts r (b .0) n)) (own-pair ts r (b .1) n)) (List·Memᴰ·cases-cons m)
+    (λ n. rw (not-true (isAt (r .page) (r .code) t) (each-member (isOther t) ts r (b .0) n)) (own-pair ts r (b .1) n)) (List·Memᴰ·cases-cons m)
 
 -- each setting's page and code are its own
 pub setting-found : (r : Row) → Listed r → settingAt (r .page) (r .code) ≡ some r

@@ -2,7 +2,7 @@
 use mathlib.Core.Path.{_≡_, refl, sym, ap, _∙_, subst}
 use mathlib.Core.Bool.{Bool, true, false, cond, _&&_, _||_, or-true, false≢true}
 use mathlib.Core.Logic.{_≢_, _⊎_, inl, inr, ⊎-elim}
-use mathlib.Core.List.{List, [], _∷_, List·Memᴰ, List·Memᴰ·head, List·Memᴰ·tail}
+use mathlib.Core.List.{List, [], _∷_, map, List·Memᴰ, List·Memᴰ·head, List·Memᴰ·tail}
 use Prim.Native.Nat.{ℕ, _+_, _-_, _*_, _/_, _%_, _^_, _≤_, _<_}
 use native.Mathlib.Nat.{min-le-left}
 use native.Mathlib.Omega.{arith}
@@ -17,8 +17,10 @@ use Rattle.plan.specs.Stores.{applied}
 use Rattle.plan.specs.Inner.{Within}
 use Rattle.plan.proofs.Laws.{applied-copied, range-length, within-range}
 use Rattle.store.specs.Fields.{Field, read, write, fits, bytesAround, fieldStores}
+use Rattle.store.specs.Settings.{settings}
 use Rattle.store.specs.Layout.{fields, fieldsInRange, spareBit, tagPlace, sparePlace}
 use Rattle.store.specs.Inner.{InStore}
+use Rattle.store.specs.declared.settings.Row.{Row}
 use Rattle.store.proofs.Tables.{either, each, each-member, two-members}
 
 -- ---- which fields there are
@@ -79,6 +81,11 @@ fields-packed = refl
 
 pub fields-count : length fields ≡ 17
 fields-count = refl
+
+-- page and code of each setting
+pub setting-pairs : map (λ (r : Row). 256 * r .page + r .code) settings
+    ≡ 0x0010 ∷ 0x0060 ∷ 0x0093 ∷ 0x0274 ∷ 0x0275 ∷ 0x1033 ∷ 0x1034 ∷ 0x104A ∷ []
+setting-pairs = refl
 
 abbrev pub isApart : ℕ → ℕ → ℕ → ℕ → Bool
 isApart at width at′ width′ = leb (at + width) at′ || leb (at′ + width′) at
@@ -170,6 +177,11 @@ module _ (m : List ℕ) (f : Field) (v : ℕ) (e : isField f ≡ true) where
 
   pub field-keeps-mark : getD (write m f v) 0 0 ≡ getD m 0 0
   field-keeps-mark = byte-put m (f .at) (f .width) v 0 (inr (field-placed f e .past))
+
+  -- the tag and the former tag stay
+  pub field-keeps-tags : (j : ℕ) → tagPlace ≤ j → j < sparePlace → getD (write m f v) j 0 ≡ getD m j 0
+  field-keeps-tags j h k =
+      byte-put m (f .at) (f .width) v j (⊎-elim (λ a. inl (omega (arith, a, h))) (λ a. inr (omega (arith, a, k))) (field-placed f e .not-tag))
 
 -- ---- the two spare bits and the spare bytes
 

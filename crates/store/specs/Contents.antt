@@ -11,7 +11,7 @@ use Rattle.store.specs.declared.contents.ItemBytes.{ItemBytes}
 use Rattle.store.specs.Fields.{read, write, fits, bytesAround}
 use Rattle.store.specs.Layout.{power, year, month, day, weekday, hour, minute, tagLength, formerLength, tagPlace, formerTagPlace}
 
--- what a text of the code is: the first bytes of the array, as many as it counts
+-- what an item of the code is: the first bytes of the array, as many as it counts
 abbrev pub itemBytes : ItemBytes → List ℕ
 itemBytes t = take (t .count) (t .bytes)
 

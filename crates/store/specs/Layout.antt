@@ -12,7 +12,7 @@ use Rattle.store.specs.Settings.{settings, fieldOf}
 abbrev pub settingFields : List Field
 settingFields = map fieldOf settings
 
--- on is 1
+-- first bit, width, least, most and unused value of each; for power on is 1
 abbrev pub power : Field
 power = field 53 1 0 1 1
 

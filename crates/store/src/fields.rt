@@ -5,7 +5,7 @@ ghost use lib.ListN.{length, take, drop};
 ghost use Rattle.bitfield.specs.Field.{getField, putField};
 ghost use Rattle.plan.specs.Plans.{storesOf};
 ghost use Rattle.store.specs.Fields.{fitsIn, bytesAround, allFit};
-ghost use Rattle.store.specs.Layout.{fieldsInRange, unusedStore, settingFields, dateFields, lengthFields};
+ghost use Rattle.store.specs.Layout.{fieldsInRange, unusedStore, dateFields, lengthFields};
 ghost use Rattle.store.specs.Inner.{InStore};
 use crate::settings;
 use plan::Plan;

@@ -10,6 +10,9 @@ ghost use Rattle.store.specs.Inner.{rowFits};
 use crate::fields;
 use plan::Plan;
 
+// How many settings there are.
+const SETTINGS: usize = 8;
+
 // The values that a Set takes: all those of a range, or the inputs.
 pub enum Values {
     Range { least: u16, most: u16 },
@@ -132,7 +135,7 @@ impl Row {
 }
 
 // All settings, in the order of the store.
-fn rows() -> [Row; 8]
+fn rows() -> [Row; SETTINGS]
     ensures { λ r. ⌜ r ≡ settings ⌝ }
 {
     [
@@ -153,7 +156,7 @@ pub fn setting_at(page: u8, code: u8) -> Found
 {
     let rows = rows();
     let mut i = 0;
-    while i < 8 {
+    while i < SETTINGS {
         let row = rows[i];
         if row.is_at(page, code) {
             return Found::Listed(row);
@@ -171,7 +174,7 @@ pub fn in_range(store: &[u8]) -> bool
     let rows = rows();
     let mut all = true;
     let mut i = 0;
-    while i < 8 {
+    while i < SETTINGS {
         let row = rows[i];
         all = all & row.is_in_range(store);
         i += 1;

@@ -4,6 +4,7 @@ ghost use Prim.Native.Nat.{_+_, _<_};
 ghost use lib.ListN.{length};
 ghost use Rattle.wire.specs.Digits.{octet};
 ghost use Rattle.messages.specs.Read.{beginsWith, isName, flagAt, modeAt, dateIn};
+ghost use Rattle.text_fields.specs.Inner.{behindYear};
 ghost use Rattle.text_fields.specs.View.{foundStatus, foundMode, foundDate};
 use messages::message::Date;
 use messages::message::PowerMode;
@@ -103,26 +104,49 @@ pub fn mode_at(text: &[u8], at: usize) -> ModeField
     ModeField::Bad
 }
 
-// The seven fields of a date, two digits each.
+// The seven fields of a date.
 pub fn date_in(text: &[u8]) -> DateField
     ensures { λ r. ⌜ foundDate r ≡ dateIn (now (text .entry)) ⌝ }
 {
     if text.len() != 14 {
         return DateField::Bad;
     }
-    let fields = digits::octets_in(text);
-    let good = fields.good;
-    if !good {
+    let Octet::Value(year) = digits::two_at(text, 0) else {
         return DateField::Bad;
-    }
-    let field = fields.bytes;
+    };
+    date_of_year(year, text)
+}
+
+// The six fields behind the year.
+fn date_of_year(year: u8, text: &[u8]) -> DateField
+    requires { ⌜ length (now text) ≡ 14 ⌝ }
+    ensures { λ r. ⌜ foundDate r ≡ behindYear year (now (text .entry)) ⌝ }
+{
+    let Octet::Value(month) = digits::two_at(text, 2) else {
+        return DateField::Bad;
+    };
+    let Octet::Value(day) = digits::two_at(text, 4) else {
+        return DateField::Bad;
+    };
+    let Octet::Value(weekday) = digits::two_at(text, 6) else {
+        return DateField::Bad;
+    };
+    let Octet::Value(hour) = digits::two_at(text, 8) else {
+        return DateField::Bad;
+    };
+    let Octet::Value(minute) = digits::two_at(text, 10) else {
+        return DateField::Bad;
+    };
+    let Octet::Value(daylight) = digits::two_at(text, 12) else {
+        return DateField::Bad;
+    };
     DateField::Is(Date {
-        year: field[0],
-        month: field[1],
-        day: field[2],
-        weekday: field[3],
-        hour: field[4],
-        minute: field[5],
-        daylight: field[6],
+        year,
+        month,
+        day,
+        weekday,
+        hour,
+        minute,
+        daylight,
     })
 }

@@ -1,14 +1,14 @@
 -- What the tests on an answer say of it, how long a line and its parts are, and that parts written one behind the other are the line.
 use types.Run.{OneOf, miss}
 use denote.Enum.Declared.{tagOf}
-use Prim.Native.Nat.{ℕ, suc, _+_, _≤_, _<_}
+use Prim.Native.Nat.{ℕ, _+_, _≤_}
 use mathlib.Core.Bool.{true, false}
 use mathlib.Core.List.{List, [], _∷_, _++_, append-assoc}
-use mathlib.Core.Path.{_≡_, refl, sym, _∙_}
+use mathlib.Core.Path.{_≡_, refl, _∙_}
 use native.Mathlib.Omega.{arith}
 use native.Mathlib.Nat.{min-le-right}
-use lib.ListN.{length, take, drop, set, length-set, length-append, length-take}
-use lib.Seq.{paste, take-all, length-take-le}
+use lib.ListN.{length, take, set, length-set, length-append, length-take}
+use lib.Seq.{paste, length-take-le}
 use Rattle.wire.specs.Digits.{hexOf}
 use Rattle.wire.specs.Packet.{over}
 use Rattle.wire.specs.Refusal.{numberOf}
@@ -19,6 +19,7 @@ use Rattle.wire.proofs.PacketLaws.{over-paste, over-set}
 use Rattle.calls.specs.Board as calls
 use Rattle.board.specs.View.{answerOf}
 use Rattle.board.specs.declared.board.Answer.{Answer}
+use Rattle.board.proofs.Answers.{allBut}
 use Rattle.board.proofs.board.Answer.{the-type}
 use Rattle.transcript.specs.Transcript.{decimal, wordOf, dataOf, isTold, isBegun, lineOf}
 use Rattle.transcript.specs.Inner.{Put, PutFew}
@@ -26,10 +27,6 @@ use Rattle.transcript.proofs.PutLaws.{put-none, put-first}
 use Rattle.transcript.proofs.DecimalLaws.{digits-few}
 
 -- ---- the tests on an answer
-
--- the places of the seven answers, but one
-abbrev allBut : ℕ → List ℕ
-allBut n = let all : List ℕ = 0 ∷ 1 ∷ 2 ∷ 3 ∷ 4 ∷ 5 ∷ 6 ∷ [] in take n all ++ drop (suc n) all
 
 abbrev pub IsNot : ℕ → Answer → Type 0
 IsNot n a = OneOf (allBut n) (tagOf the-type a)
@@ -176,7 +173,3 @@ module _ (o : List ℕ) (at n : ℕ) (lent : List ℕ) (few : n ≤ length lent)
   hex-put k o₁ p e =
       let l : length (hexOf (take n lent)) ≡ n + n = hex-length (take n lent) ∙ rw (length-take-le n lent few) in
       rw (← e) (put-first o at 0x20 (hexOf (take n lent)) _ o₁ (omega arith) (omega arith, p))
-
--- the bytes that are counted, where so many are not there
-pub all-counted : (s : List ℕ) (count : ℕ) → length s < count → take (length s) s ≡ take count s
-all-counted s count h = take-all (length s) s (omega arith) ∙ sym (take-all count s (omega arith))

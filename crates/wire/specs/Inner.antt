@@ -1,4 +1,4 @@
--- What inner functions ask of their callers and what they give. No promise of a public call cites it.
+-- What inner functions ask of their callers and what they give. No contract of an entry point cites it.
 use mathlib.Core.List.{List, [], _∷_, _++_}
 use mathlib.Core.Path.{_≡_}
 use Prim.Native.Nat.{ℕ, _+_, _≤_}

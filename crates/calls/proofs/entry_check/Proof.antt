@@ -1,7 +1,7 @@
 -- Each test on the way is a test of the definition; a law for each return.
 use mathlib.Core.Bool.{Bool, true, false, not}
 use mathlib.Core.Path.{_≡_}
-use Rattle.calls.specs.Calls.{refusedEntry, idleEntry, pendingEntry, entryCheck}
+use Rattle.calls.specs.Calls.{refusedEntry, nonePendingEntry, pendingEntry, entryCheck}
 use Rattle.calls.proofs.entry_check.Statement.{statement}
 use Rattle.calls.proofs.entry_check.Tie as tie
 
@@ -18,7 +18,7 @@ module _ (short sound pending : Bool) where
   unfolding entryCheck
   is-pending e f g = rw (e, f, g)
 
-  is-idle : short ≡ false → not sound ≡ false → pending ≡ false → idleEntry ≡ entryCheck short sound pending
+  is-idle : short ≡ false → not sound ≡ false → pending ≡ false → nonePendingEntry ≡ entryCheck short sound pending
   unfolding entryCheck
   is-idle e f g = rw (e, f, g)
 

@@ -21,8 +21,8 @@ loop-holds c = (omega arith, refl, refl, refl, omega arith)
 with-room-requires : tie.Need-with-room-requires Inv-loop μ-loop
 with-room-requires c κs = omega arith
 
-counted-requires : tie.Need-counted-requires Inv-loop μ-loop
-counted-requires c κs = search needs
+one-more-requires : tie.Need-one-more-requires Inv-loop μ-loop
+one-more-requires c κs = search needs
 
 shared-slice-read-give : tie.Need-shared-slice-read-give Inv-loop μ-loop
 shared-slice-read-give c = omega arith
@@ -68,7 +68,7 @@ give-all-spec =
     μ-loop
     loop-holds
     with-room-requires
-    counted-requires
+    one-more-requires
     shared-slice-read-give
     give-requires
     add-i

@@ -22,8 +22,8 @@ module _ (item out : List ℕ) (n : ℕ) (there : n ≤ length item) where
   item-put count after p e =
       record { there = sym (length-take-le n item there) ∙ ap length e; put = rw (← e) (p ∙ over-paste [] out 0 refl (take n item)) }
 
-counted-requires : tie.Need-counted-requires
-counted-requires c κs = search needs
+at-most-requires : tie.Need-at-most-requires
+at-most-requires c κs = search needs
 
 slice-aggregate-put-bytes : tie.Need-slice-aggregate-put-bytes
 slice-aggregate-put-bytes c = search (needs, length-take-le)
@@ -40,4 +40,4 @@ returns c = search item-put
 pub put-item-spec : {M : Type 1} → statement M
 put-item-spec =
     tie.close
-    (tie.spec counted-requires slice-aggregate-put-bytes put-bytes-requires same-length returns)
+    (tie.spec at-most-requires slice-aggregate-put-bytes put-bytes-requires same-length returns)

@@ -9,8 +9,8 @@ use Rattle.transcript.proofs.line.put_reply.Tie as tie
 slice-write-out : tie.Need-slice-write-out
 slice-write-out c = search needs
 
-counted-requires : tie.Need-counted-requires
-counted-requires c κs = search needs
+at-most-requires : tie.Need-at-most-requires
+at-most-requires c κs = search needs
 
 add-put-hex : tie.Need-add-put-hex
 add-put-hex c = search needs
@@ -41,7 +41,7 @@ put-reply-spec =
     tie.close
     (tie.spec
     slice-write-out
-    counted-requires
+    at-most-requires
     add-put-hex
     slice-aggregate-put-hex
     put-hex-requires

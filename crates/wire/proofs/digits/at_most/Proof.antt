@@ -6,8 +6,8 @@ use native.Mathlib.Omega.{arith}
 use lib.ListN.{length, take}
 use lib.Seq.{take-all}
 use borrow.Author.Needs.{needs}
-use Rattle.station_c.proofs.read.counted.Statement.{statement}
-use Rattle.station_c.proofs.read.counted.Tie as tie
+use Rattle.wire.proofs.digits.at_most.Statement.{statement}
+use Rattle.wire.proofs.digits.at_most.Tie as tie
 
 all-counted : (s : List ℕ) (count : ℕ) → length s < count → take (length s) s ≡ take count s
 all-counted s count h = take-all (length s) s (omega arith) ∙ sym (take-all count s (omega arith))
@@ -18,5 +18,5 @@ returns c = (omega arith, search all-counted)
 returns-2 : tie.Need-returns-2
 returns-2 c = search needs
 
-pub counted-spec : {M : Type 1} → statement M
-counted-spec = tie.close (tie.spec returns returns-2)
+pub at-most-spec : {M : Type 1} → statement M
+at-most-spec = tie.close (tie.spec returns returns-2)
