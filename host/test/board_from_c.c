@@ -829,7 +829,7 @@ static void test_tags(void)
 }
 
 /* Serial number and model of 0 to 16 bytes, of any value. */
-static void test_identity_texts(void)
+static void test_serials_and_models(void)
 {
     uint8_t bytes[2][16];
     char text[60] = "C316", model_text[60] = "C317";
@@ -1420,7 +1420,7 @@ static void test_packets(void)
     RUN(test_modes);
     RUN(test_dates);
     RUN(test_tags);
-    RUN(test_identity_texts);
+    RUN(test_serials_and_models);
     RUN(test_no_start);
     RUN(test_headers);
     RUN(test_lengths);

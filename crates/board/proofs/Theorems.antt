@@ -11,7 +11,7 @@ use Rattle.calls.specs.Board.{Answer, refused, reply, pending}
 use Rattle.calls.specs.Calls.{isSound, refuse, onCall, onStep}
 use Rattle.calls.proofs.Laws.{Kept}
 use Rattle.calls.proofs.Kept.{call-keeps, step-keeps}
-use Rattle.calls.proofs.Steps.{step-stores-one, pending-call-stores-none}
+use Rattle.calls.proofs.Steps.{step-stores-at-most-one, pending-call-stores-none}
 use Rattle.packets.specs.Packets.{BoardState, BoardOutcome}
 use Rattle.board.specs.BoardKind.{Call, boardKind}
 use Rattle.board.proofs.BoardLaws.{board-laws}
@@ -42,7 +42,12 @@ refusals-change-nothing c s m lent n a h = go (call-refused c s m lent n a)
     go (unchanged e) = e
     go (emptied low high e) = absurd (⊎-elim (λ x. omega arith) (λ x. omega arith) h)
 
--- with every number
+-- a step with every number
+pub step-refusals-change-nothing : (s : BoardState) (m lent : List ℕ) (n : ℕ) → onStep boardKind s m lent .answer ≡ refused n
+    → onStep boardKind s m lent ≡ refuse boardKind n s lent
+step-refusals-change-nothing = step-refused
+
+-- a call with every number
 pub refusal-keeps : (c : Call) (s : BoardState) (m lent : List ℕ) (n : ℕ) → onCall boardKind c s m lent .answer ≡ refused n → Untouched lent (onCall boardKind c s m lent)
 unfolding refuse
 refusal-keeps c s m lent n a = go (call-refused c s m lent n a)
@@ -65,7 +70,7 @@ pub pending-stores-none : (c : Call) (s : BoardState) (m lent : List ℕ) (p : �
 pending-stores-none = pending-call-stores-none boardKind
 
 pub step-stores-few : (s : BoardState) (m lent : List ℕ) → length (onStep boardKind s m lent .stores) ≤ 1
-step-stores-few = step-stores-one boardKind
+step-stores-few = step-stores-at-most-one boardKind
 
 -- ---- a reply's length is not invented: it is that of a packet of L + 9 bytes at the start of the lent buffer
 

@@ -120,8 +120,8 @@ module _ (K : Kind) where
   clearing-stores-one p owed s lent = step-clears-or-ends (λ o. length (o .stores) ≡ 1) p owed s lent (λ t. refl) (λ t. refl)
 
   -- a step stores one byte or none
-  pub step-stores-one : (s : Board K) (m lent : List ℕ) → length (onStep K s m lent .stores) ≤ 1
-  step-stores-one s m lent = go (stepped s m lent)
+  pub step-stores-at-most-one : (s : Board K) (m lent : List ℕ) → length (onStep K s m lent .stores) ≤ 1
+  step-stores-at-most-one s m lent = go (stepped s m lent)
     where
       go : Stepped K s m lent (onStep K s m lent) → length (onStep K s m lent .stores) ≤ 1
       go (refuses n e) = rw (e, refusal-stores-none) (omega arith)
