@@ -12,14 +12,14 @@ use Rattle.store.specs.declared.settings.Found.{Found}
 
 -- ---- the table
 
-abbrev range : ℕ → ℕ → Values
+abbrev pub range : ℕ → ℕ → Values
 range least most = Values.Range least most
 
 abbrev inputs : Values
 inputs = Values.Inputs
 
 -- page, code, accepted values, max field, unused value; first bit and width of the field
-abbrev row : ℕ → ℕ → Values → ℕ → ℕ → ℕ → ℕ → Row
+abbrev pub row : ℕ → ℕ → Values → ℕ → ℕ → ℕ → ℕ → Row
 row page code values largest unused at width =
     record { page = page; code = code; values = values; largest = largest; unused = unused; at = at; width = width }
 

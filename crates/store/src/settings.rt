@@ -5,7 +5,7 @@ ghost use lib.ListN.{length};
 ghost use Rattle.plan.specs.Plans.{storesOf};
 ghost use Rattle.store.specs.Fields.{allFit, fieldStores};
 ghost use Rattle.store.specs.Layout.{settingFields};
-ghost use Rattle.store.specs.Settings.{inputAccepts, inputKept, inputShown, accepts, kept, shown, leastKept, mostKept, backlight, input, balance, pipH, pipV, ambientLow, ambientHigh, tile, settings, isAt, settingAt, Listed, fieldOf, current, found};
+ghost use Rattle.store.specs.Settings.{inputAccepts, inputKept, inputShown, accepts, kept, shown, leastKept, mostKept, range, row, backlight, input, balance, pipH, pipV, ambientLow, ambientHigh, tile, settings, isAt, settingAt, Listed, fieldOf, current, found};
 ghost use Rattle.store.specs.Inner.{rowFits};
 use crate::fields;
 use plan::Plan;
@@ -89,6 +89,33 @@ impl Values {
 }
 
 impl Row {
+    // The row of a setting that takes every value from the least to the largest.
+    fn ranged(
+        page: u8,
+        code: u8,
+        least: u16,
+        largest: u16,
+        unused: u16,
+        at: usize,
+        width: usize,
+    ) -> Self
+        ensures { λ r. ⌜ r ≡ row page code (range least largest) largest unused at width ⌝ }
+    {
+        let values = Values::Range {
+            least,
+            most: largest,
+        };
+        Row {
+            page,
+            code,
+            values,
+            largest,
+            unused,
+            at,
+            width,
+        }
+    }
+
     // Whether a page and a code are the row's.
     fn is_at(self, page: u8, code: u8) -> bool
         ensures { λ r. ⌜ r ≡ isAt page code self ⌝ }
@@ -200,19 +227,15 @@ impl Backlight {
     pub fn row() -> Row
         ensures { λ r. ⌜ r ≡ backlight ⌝ }
     {
-        let values = Values::Range {
-            least: 0,
-            most: Self::LARGEST,
-        };
-        Row {
-            page: Self::PAGE,
-            code: Self::CODE,
-            values,
-            largest: Self::LARGEST,
-            unused: Self::UNUSED,
-            at: Self::AT,
-            width: Self::WIDTH,
-        }
+        Row::ranged(
+            Self::PAGE,
+            Self::CODE,
+            0,
+            Self::LARGEST,
+            Self::UNUSED,
+            Self::AT,
+            Self::WIDTH,
+        )
     }
 }
 
@@ -306,19 +329,15 @@ impl Balance {
     pub fn row() -> Row
         ensures { λ r. ⌜ r ≡ balance ⌝ }
     {
-        let values = Values::Range {
-            least: 0,
-            most: Self::LARGEST,
-        };
-        Row {
-            page: Self::PAGE,
-            code: Self::CODE,
-            values,
-            largest: Self::LARGEST,
-            unused: Self::UNUSED,
-            at: Self::AT,
-            width: Self::WIDTH,
-        }
+        Row::ranged(
+            Self::PAGE,
+            Self::CODE,
+            0,
+            Self::LARGEST,
+            Self::UNUSED,
+            Self::AT,
+            Self::WIDTH,
+        )
     }
 }
 
@@ -340,19 +359,15 @@ impl PipH {
     pub fn row() -> Row
         ensures { λ r. ⌜ r ≡ pipH ⌝ }
     {
-        let values = Values::Range {
-            least: 0,
-            most: Self::LARGEST,
-        };
-        Row {
-            page: Self::PAGE,
-            code: Self::CODE,
-            values,
-            largest: Self::LARGEST,
-            unused: Self::UNUSED,
-            at: Self::AT,
-            width: Self::WIDTH,
-        }
+        Row::ranged(
+            Self::PAGE,
+            Self::CODE,
+            0,
+            Self::LARGEST,
+            Self::UNUSED,
+            Self::AT,
+            Self::WIDTH,
+        )
     }
 }
 
@@ -374,19 +389,15 @@ impl PipV {
     pub fn row() -> Row
         ensures { λ r. ⌜ r ≡ pipV ⌝ }
     {
-        let values = Values::Range {
-            least: 0,
-            most: Self::LARGEST,
-        };
-        Row {
-            page: Self::PAGE,
-            code: Self::CODE,
-            values,
-            largest: Self::LARGEST,
-            unused: Self::UNUSED,
-            at: Self::AT,
-            width: Self::WIDTH,
-        }
+        Row::ranged(
+            Self::PAGE,
+            Self::CODE,
+            0,
+            Self::LARGEST,
+            Self::UNUSED,
+            Self::AT,
+            Self::WIDTH,
+        )
     }
 }
 
@@ -408,19 +419,15 @@ impl AmbientLow {
     pub fn row() -> Row
         ensures { λ r. ⌜ r ≡ ambientLow ⌝ }
     {
-        let values = Values::Range {
-            least: 0,
-            most: Self::LARGEST,
-        };
-        Row {
-            page: Self::PAGE,
-            code: Self::CODE,
-            values,
-            largest: Self::LARGEST,
-            unused: Self::UNUSED,
-            at: Self::AT,
-            width: Self::WIDTH,
-        }
+        Row::ranged(
+            Self::PAGE,
+            Self::CODE,
+            0,
+            Self::LARGEST,
+            Self::UNUSED,
+            Self::AT,
+            Self::WIDTH,
+        )
     }
 }
 
@@ -442,19 +449,15 @@ impl AmbientHigh {
     pub fn row() -> Row
         ensures { λ r. ⌜ r ≡ ambientHigh ⌝ }
     {
-        let values = Values::Range {
-            least: 0,
-            most: Self::LARGEST,
-        };
-        Row {
-            page: Self::PAGE,
-            code: Self::CODE,
-            values,
-            largest: Self::LARGEST,
-            unused: Self::UNUSED,
-            at: Self::AT,
-            width: Self::WIDTH,
-        }
+        Row::ranged(
+            Self::PAGE,
+            Self::CODE,
+            0,
+            Self::LARGEST,
+            Self::UNUSED,
+            Self::AT,
+            Self::WIDTH,
+        )
     }
 }
 
@@ -476,18 +479,14 @@ impl Tile {
     pub fn row() -> Row
         ensures { λ r. ⌜ r ≡ tile ⌝ }
     {
-        let values = Values::Range {
-            least: 1,
-            most: Self::LARGEST,
-        };
-        Row {
-            page: Self::PAGE,
-            code: Self::CODE,
-            values,
-            largest: Self::LARGEST,
-            unused: Self::UNUSED,
-            at: Self::AT,
-            width: Self::WIDTH,
-        }
+        Row::ranged(
+            Self::PAGE,
+            Self::CODE,
+            1,
+            Self::LARGEST,
+            Self::UNUSED,
+            Self::AT,
+            Self::WIDTH,
+        )
     }
 }
