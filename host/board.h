@@ -13,9 +13,10 @@
  * - Between two calls nobody but the board changes its state or its store. Only a start gives a state; a state goes with the store
  *   it was started on.
  * - The store takes each byte whole or not at all, one after another in the order they are stored, and keeps them without supply.
- * - The supply holds up for 40 byte stores once a call has begun, so that only an erase can be cut. As the code is written, a call
- *   stores at most one byte while an erase is pending, and every other call at most 40; what is proved is what the store holds at
- *   the end of a call.
+ * - The supply holds up for 40 byte stores once a call has begun, so that only an erase can be cut. What a call stores is planned
+ *   first, and the plan is proved to be one byte in an erase step that runs, none in a refused call and in any other while an erase
+ *   is pending, and at most 40 in every other call. That the machine stores the plan's bytes one by one in its order is tried, for
+ *   x86-64 (host/test/board_stores.c); on another machine it has to be tried again.
  * - After a power cut the board is started again on the same store, with the same ID, serial number and model.
  *
  * The functions keep nothing of their own, so boards with a state and a store each may run beside one another.
@@ -90,10 +91,10 @@ enum board_refusal {
  *
  * Else the state is written. Serial number and model are copied into it and may go. With 00h in byte 0 the board holds nothing and
  * no erase is pending; with E7h an erase is pending from its first step, whatever the other bytes hold, and no reply is owed.
- * The store is not written in this version.
+ * The store is only read in this version.
  */
-uint8_t board_start(uint8_t id, const uint8_t *serial, size_t serial_len, const uint8_t *model, size_t model_len, uint8_t *store,
-                    size_t store_len, uint8_t *state, size_t state_len);
+uint8_t board_start(uint8_t id, const uint8_t *serial, size_t serial_len, const uint8_t *model, size_t model_len,
+                    const uint8_t *store, size_t store_len, uint8_t *state, size_t state_len);
 
 /*
  * Gives the board one byte from the line.
@@ -132,7 +133,8 @@ uint8_t board_gap(uint8_t *state, size_t state_len, const uint8_t *store, size_t
  *
  * What is lent is the same as for a byte. The result is BOARD_MORE 127 times; the 128th step, counted from the acceptance or from
  * the latest start, answers BOARD_REPLY with the reply to the erase request, or BOARD_ENDED where the request went to all boards or
- * a start came between. Then the 128 bytes are those of an unused board.
+ * a start came between. Then the 128 bytes are those of an unused board, and the bytes of the state are those that a start gives on
+ * them: nothing of the past is left in either. What the last replies left in the caller's buffers is the caller's to clear.
  *
  * Or the result is BOARD_REFUSED with the number in `refusal`, and the step has not run: 10 where reply_len is below 64; 12 as for
  * a byte; 13 with no erase pending. Then state, store and buffer are as they were.

@@ -4,14 +4,11 @@ use std::time::Instant;
 
 extern "C" {
     fn recording_count(recording: *const u8, len: usize, refused: *mut u64) -> u64;
-    fn recording_count_by_value(recording: *const u8, len: usize, refused: *mut u64) -> u64;
 }
 
-type Count = unsafe extern "C" fn(*const u8, usize, *mut u64) -> u64;
-
-fn proved(count: Count, recording: &[u8]) -> (u64, u64) {
+fn proved(recording: &[u8]) -> (u64, u64) {
     let mut refused = 0;
-    let packets = unsafe { count(recording.as_ptr(), recording.len(), &mut refused) };
+    let packets = unsafe { recording_count(recording.as_ptr(), recording.len(), &mut refused) };
     (packets, refused)
 }
 
@@ -152,8 +149,7 @@ fn main() {
     let seed = 0x5EED;
     let recording = recording_of(10_000_000, seed);
     println!("recording of {} bytes, seed {seed:#x}, best of 7", recording.len());
-    let a = measure("proved, lent array", &recording, |r| proved(recording_count, r));
-    let b = measure("proved, receiver by value", &recording, |r| proved(recording_count_by_value, r));
-    let c = measure("plain Rust", &recording, plain);
-    assert!(a == c && b == c, "the receivers disagree");
+    let a = measure("proved", &recording, proved);
+    let b = measure("plain Rust", &recording, plain);
+    assert!(a == b, "the receivers disagree");
 }

@@ -480,7 +480,18 @@ static void run_steps(int line, int p, int q)
     }
 }
 
-/* Runs the steps that are left; the last one gives the reply or ends silently. */
+/* Whether the state is, byte for byte, what a start gives on an unused store. */
+static int is_fresh(void)
+{
+    uint8_t store[BOARD_STORE_SIZE], state[BOARD_STATE_SIZE];
+
+    put_unused(store);
+    return board_start((uint8_t)board.id, (const uint8_t *)serial, strlen(serial), (const uint8_t *)model, strlen(model), store,
+                       sizeof store, state, sizeof state) == 0 &&
+           memcmp(state, board.state, sizeof state) == 0;
+}
+
+/* Runs the steps that are left; the last one gives the reply or ends silently. Then nothing of the past is left in the state. */
 static void finish_erase(int line, int p, int is_owed)
 {
     uint8_t unused[BOARD_STORE_SIZE];
@@ -492,6 +503,7 @@ static void finish_erase(int line, int p, int is_owed)
         check_reply(line, packet_of('0', own_address(), 'F', erase_reply_text));
     else
         check_answer(line, BOARD_ENDED);
+    CHECK(is_fresh(), "line %d: something of the past in the state", line);
     CHECK(board_unused(unused, sizeof unused) == 0 && memcmp(unused, expected, sizeof unused) == 0, "another unused store");
 }
 
@@ -1364,6 +1376,23 @@ static void test_erases(void)
     }
 }
 
+/* The digits of a tag pass through the receiver; two boards, of which one had a tag, are the same bytes once both are erased. */
+static void test_past(void)
+{
+    static const char tag[] = "HOTEL RITZ R.512";
+    uint8_t states[2][BOARD_STATE_SIZE];
+
+    for (int i = 0; i < 2; i++) {
+        start_unused(5);
+        if (i == 0)
+            try_tag((const uint8_t *)tag, strlen(tag), "");
+        BEGIN_ERASE(own_address());
+        FINISH_ERASE(1, 1);
+        memcpy(states[i], board.state, sizeof states[i]);
+    }
+    CHECK(memcmp(states[0], states[1], sizeof states[0]) == 0, "two erased boards differ");
+}
+
 /* With E7h nothing else of a store matters at a start. */
 static void test_starts_on_erases(void)
 {
@@ -1446,6 +1475,7 @@ static void test_boards(void)
     RUN(test_cuts);
     RUN(test_two_cuts);
     RUN(test_erases);
+    RUN(test_past);
     RUN(test_starts_on_erases);
     RUN(test_cut_packets);
 }

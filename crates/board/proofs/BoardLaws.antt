@@ -74,7 +74,7 @@ judged-whole g p judge.good r f e = f e
 judged-whole g p (judge.refused n) r f e = cc
 
 pub whole-is : (held : List ℕ) (b : ℕ) (p : List ℕ) → receive.accept held b .answer ≡ receive.whole p → held ++ (b ∷ []) ≡ p
-unfolding receive.accept receive.grown
+unfolding receive.accept receive.behind receive.grown
 whole-is held b p =
     let g = held ++ (b ∷ []) in
     let W : receive.Receipt → Type 0 = λ r. r .answer ≡ receive.whole p → g ≡ p in

@@ -1,24 +1,26 @@
 -- What a call or a step may store and send: bytes that a plan and the store can take, and a packet of at most 64 bytes whose length is L + 9.
 use mathlib.Core.Path.{_≡_, refl}
-use mathlib.Core.Bool.{Bool, true, false}
+use mathlib.Core.Bool.{Bool, true, false, _&&_}
 use mathlib.Core.List.{List, [], _∷_}
 use Prim.Native.Nat.{ℕ, _≤_}
 use native.Mathlib.Omega.{arith}
+use lib.Dec.{eqb}
 use lib.ListN.{length, getD}
-use borrow.Author.Tests.{leb-true}
+use borrow.Author.Tests.{leb-true, eqb-true}
 use Rattle.plan.specs.Stores.{Entry}
 use Rattle.plan.specs.Inner.{Committable}
 use Rattle.wire.specs.Packet.{size, packetText, over}
+use Rattle.wire.proofs.Tests.{both}
 use Rattle.messages.specs.Message.{Reply}
 use Rattle.messages.specs.Message.Reply.{setReply}
 use Rattle.messages.specs.Text.{replyText, parameterText}
 use Rattle.messages.specs.Read.{requestIn}
 use Rattle.receiver.specs.Receive as receive
 use Rattle.calls.specs.Board.{Identity, Answer, waiting, silent, begun, more, ended, refused, reply}
-use Rattle.calls.specs.Calls.{refuse, onCall, clearStep, endStep, eraseStep, onStep}
+use Rattle.calls.specs.Calls.{clearsAt, isSoundAs, isSound, refuse, onCall, clearStep, endStep, eraseStep, onStep}
 use Rattle.calls.proofs.Steps.{Called, Stepped, refuses, clears, does, called, stepped, step-clears-or-ends}
 use Rattle.actions.specs.Act.{Effect, replies, begins, effect}
-use Rattle.packets.specs.Packets.{BoardState, BoardOutcome, Addressee, own, all, another, addressee, replyFrom, toOwn, toAll, onPacketTo, onPacket}
+use Rattle.packets.specs.Packets.{BoardState, BoardOutcome, isIdentity, Addressee, own, all, another, addressee, replyFrom, toOwn, toAll, onPacketTo, onPacket}
 use Rattle.board.specs.BoardKind.{Call, byte, gap, eraseReply, lastAnswer, lastBuffer, onReceipt, boardKind}
 use Rattle.board.specs.BoardKind as board
 use Rattle.packets.proofs.EffectLaws.{effect-ready}
@@ -105,7 +107,7 @@ last-sends i true lent = reply-sent i (setReply 0 0xF0 0x01 1 1 1) lent (omega a
 last-sends i false lent = refl
 
 clear-bounded : (p : ℕ) (owed : Bool) (s : BoardState) (lent : List ℕ) → Bounded lent (eraseStep boardKind p owed s lent)
-unfolding clearStep endStep
+unfolding clearStep endStep clearsAt
 clear-bounded p owed s lent =
     step-clears-or-ends boardKind (Bounded lent) p owed s lent
     (λ t. record { ready = one-store _ (leb-true p 127 t); sends = refl })
@@ -117,3 +119,29 @@ step-bounded s m lent = go (stepped boardKind s m lent)
     go : Stepped boardKind s m lent (onStep boardKind s m lent) → Bounded lent (onStep boardKind s m lent)
     go (refuses n e) = rw e (refusal-bounded n s lent)
     go (clears p owed q h e) = rw e (clear-bounded p owed s lent)
+
+-- ---- plans of what they store, on any store: one that has not 128 bytes is not sound, and nothing is stored
+
+sound-size : (s : BoardState) (m : List ℕ) → isSound boardKind s m ≡ true → length m ≡ 128
+unfolding isSound
+sound-size s m h =
+    eqb-true _ _ (both (isIdentity (s .ident)) (eqb (length m) 128) (both (isIdentity (s .ident) && eqb (length m) 128) (isSoundAs boardKind (s .erase) (s .held) m) h .0) .1)
+
+nothing-committable : (n : ℕ) → Committable n []
+nothing-committable n = record { few = omega arith; within = tt }
+
+pub call-committable : (c : Call) (s : BoardState) (m lent : List ℕ) → Committable (length m) (onCall boardKind c s m lent .stores)
+unfolding refuse
+call-committable c s m lent = go (called boardKind c s m lent)
+  where
+    go : Called boardKind c s m lent (onCall boardKind c s m lent) → Committable (length m) (onCall boardKind c s m lent .stores)
+    go (refuses n e) = rw e (nothing-committable (length m))
+    go (does q h e) = rw (sound-size s m h) (call-bounded c s m lent .ready)
+
+pub step-committable : (s : BoardState) (m lent : List ℕ) → Committable (length m) (onStep boardKind s m lent .stores)
+unfolding refuse
+step-committable s m lent = go (stepped boardKind s m lent)
+  where
+    go : Stepped boardKind s m lent (onStep boardKind s m lent) → Committable (length m) (onStep boardKind s m lent .stores)
+    go (refuses n e) = rw e (nothing-committable (length m))
+    go (clears p owed q h e) = rw (sound-size s m h) (step-bounded s m lent .ready)

@@ -9,4 +9,6 @@ pub mod EraseRequest
 pub mod Demand3
 pub mod Theorems
 pub mod StartLaws
+pub mod ValueLaws
+pub mod PastLaws
 pub mod CallLaws

@@ -68,7 +68,7 @@ grown-declines held g =
     (λ _. judged-declines held (judge.packetVerdict g) (receive.delivers g) (packet-numbered g) tt)))
 
 accept-declines : (held : List ℕ) (b : ℕ) → Declines held (receive.accept held b)
-unfolding receive.accept
+unfolding receive.accept receive.behind
 accept-declines held b =
     cond-by (Declines held) (eqb (length held) 0) _ _
     (λ t. cond-by (Declines held) (eqb b soh) _ _ (λ _. tt) (λ _. (refl, inl (refl, nothing-is held t))))

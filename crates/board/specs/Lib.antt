@@ -2,4 +2,5 @@ pub mod BoardKind
 pub mod Demand3
 pub mod ByteCalls
 pub mod View
+pub mod Values
 pub mod Inner

@@ -1,20 +1,20 @@
--- What the board's values in code mean, with the rules' number for each case (docs/RULES.md, CA1). Arrays are seen through their counts.
+-- What the board's values in code mean, with the rules' number for each case (docs/RULES.md, CA1), and what a call gives. States show arrays
+-- through their counts; what else a call leaves in a board's value stands in Values.antt.
 use mathlib.Core.Bool.{Bool}
 use mathlib.Core.List.{List, []}
 use mathlib.Core.Path.{_≡_}
 use Prim.Native.Nat.{ℕ}
-use lib.ListN.{take, replicate}
-use Rattle.wire.specs.Packet.{mostPacket}
 use Rattle.wire.specs.Refusal.{numberOf}
-use Rattle.store.specs.declared.contents.ItemBytes.{ItemBytes}
+use Rattle.plan.specs.Plans.{storesOf}
+use Rattle.receiver.specs.View.{heldOf}
 use Rattle.calls.specs.Board as calls
 use Rattle.actions.specs.View.{identityOf}
-use Rattle.packets.specs.Packets.{BoardState}
-use Rattle.packets.specs.View.{Result}
+use Rattle.packets.specs.Packets.{BoardState, BoardOutcome}
 use Rattle.board.specs.declared.board.Erase.{Erase}
 use Rattle.board.specs.declared.board.Board.{Board}
 use Rattle.board.specs.declared.board.Answer.{Answer}
 use Rattle.board.specs.declared.board.Done.{Done}
+use Rattle.board.specs.declared.board.Planned.{Planned}
 use Rattle.board.specs.declared.board.Started.{Started}
 use Rattle.board.specs.declared.board.StartAnswer.{StartAnswer}
 
@@ -26,7 +26,7 @@ eraseOf (Erase.Pending place owed) = calls.pending place owed
 
 abbrev pub stateOf : Board → BoardState
 stateOf b =
-    record { ident = identityOf (b .id) (b .serial) (b .model); held = take (b .len) (b .held); erase = eraseOf (b .erase) }
+    record { ident = identityOf (b .id) (b .serial) (b .model); held = heldOf (b .receiver); erase = eraseOf (b .erase) }
 
 -- ---- a call's answer
 
@@ -49,8 +49,34 @@ answerKind calls.ended = 4
 answerKind (calls.refused n) = 5
 answerKind (calls.reply n) = 6
 
+-- ---- what a call gives
+
+-- answer, board, store and lent buffer
+pub record Result : Type 0 where
+  pub answer : calls.Answer ℕ
+  pub state : BoardState
+  pub store : List ℕ
+  pub buffer : List ℕ
+
+abbrev pub result : BoardOutcome → List ℕ → Result
+result o m = record { answer = o .answer; state = o .state; store = calls.after o m; buffer = o .buffer }
+
 abbrev pub gave : Done → List ℕ → List ℕ → Result
 gave d m lent = record { answer = answerOf (d .answer); state = stateOf (d .board); store = m; buffer = lent }
+
+-- a call gave an outcome: its answer and its state, its stores applied and its lent buffer; and the board's value is what the outcome leaves
+pub record Gives (d : Done) (m m′ lent′ : List ℕ) (leaves : BoardOutcome → Board) (o : BoardOutcome) : Type 0 where
+  pub result : gave d m′ lent′ ≡ result o m
+  pub value : d .board ≡ leaves o
+
+-- what is planned: nothing is stored yet, and the plan is the outcome's own list
+abbrev pub plannedOutcome : Planned → List ℕ → BoardOutcome
+plannedOutcome p lent =
+    record { answer = answerOf (p .answer); state = stateOf (p .board); stores = storesOf (p .plan); buffer = lent }
+
+pub record Plans (p : Planned) (lent′ : List ℕ) (leaves : BoardOutcome → Board) (o : BoardOutcome) : Type 0 where
+  pub outcome : plannedOutcome p lent′ ≡ o
+  pub value : p .board ≡ leaves o
 
 -- ---- a start
 
@@ -63,17 +89,3 @@ startedWith (StartAnswer.Refused r) b = calls.startRefused (numberOf r)
 
 abbrev pub startedOf : Started → calls.Started BoardState
 startedOf s = startedWith (s .answer) (s .board)
-
--- what a refused start gives (ER5): ID 0, which no call takes
-abbrev noBytes : ItemBytes
-noBytes = record { bytes = replicate 16 0; count = 0 }
-
-abbrev pub noBoard : Board
-noBoard = record { id = 0; serial = noBytes; model = noBytes; held = replicate mostPacket 0; len = 0; erase = Erase.Idle }
-
-abbrev pub RefusingWith : StartAnswer → Board → Type 0
-RefusingWith StartAnswer.Ready b = Unit {0}
-RefusingWith (StartAnswer.Refused r) b = b ≡ noBoard
-
-abbrev pub Refusing : Started → Type 0
-Refusing s = RefusingWith (s .answer) (s .board)

@@ -1,23 +1,28 @@
-// The board's calls. Each gets the board by value and hands back the next one with its answer; the store and the reply buffer are lent.
+// The board's calls. Each gets the board by value and hands back the next one with its answer; the store and the reply buffer are lent. What a call
+// stores is planned first, on the store as it is, and then committed.
 ghost use mathlib.Core.Bool.{false};
-ghost use mathlib.Core.List.{[]};
+ghost use mathlib.Core.List.{[], _∷_};
 ghost use mathlib.Core.Path.{_≡_};
 ghost use Prim.Native.Nat.{_+_, _≤_};
-ghost use lib.ListN.{length, getD, set, take};
+ghost use lib.ListN.{length, getD, take};
 ghost use Rattle.wire.specs.Packet.{mostId, leastBuffer};
+ghost use Rattle.plan.specs.Stores.{entry};
+ghost use Rattle.plan.specs.Plans.{storesOf};
+ghost use Rattle.receiver.specs.View.{heldOf};
+ghost use Rattle.receiver.specs.Inner.{asked};
 ghost use Rattle.store.specs.Layout.{unusedStore};
-ghost use Rattle.calls.specs.Board.{isPending, placeOf, owedOf};
-ghost use Rattle.calls.specs.Calls.{isSound, entryCheckOf, onCall, eraseStep, onStep, onStart};
-ghost use Rattle.calls.specs.View.{entryCheckAs};
 ghost use Rattle.store.specs.declared.contents.ItemBytes.{ItemBytes};
-ghost use Rattle.actions.specs.View.{identityBytes, identityOf};
+ghost use Rattle.calls.specs.Board.{isPending, placeOf, owedOf};
+ghost use Rattle.calls.specs.Calls.{entryCheckOf, onCall, eraseStep, onStep, onStart};
+ghost use Rattle.calls.specs.View.{entryCheckAs};
+ghost use Rattle.actions.specs.View.{identityOf};
 ghost use Rattle.packets.specs.Packets.{onPacket};
-ghost use Rattle.packets.specs.View.{result};
+ghost use Rattle.packets.specs.Inner.{answerAfter};
 ghost use Rattle.board.specs.BoardKind as kind;
 ghost use Rattle.board.specs.BoardKind.{boardKind};
-ghost use Rattle.board.specs.View.{eraseOf, stateOf, answerOf, answerKind, gave, startedOf, noBoard, givenIdentity, Refusing};
-ghost use Rattle.board.specs.Inner.{startStateAs, startState, freshState, leftState, Accepting, Acting, Erasing};
-ghost use Rattle.packets.specs.Inner.{eraseAfter, answerAfter};
+ghost use Rattle.board.specs.View.{eraseOf, stateOf, answerOf, answerKind, Gives, Plans, startedOf, givenIdentity};
+ghost use Rattle.board.specs.Values.{itemValue, freshBoard, noBoard, startLeaves, withReceiver, withErase, callLeaves, stepLeaves};
+ghost use Rattle.board.specs.Inner.{startStateAs, startState, Sized, Accepting, Acting, Erasing, Planning, packetLeaves};
 use crate::sound;
 use calls::EntryCheck;
 use messages::message::Parameter;
@@ -25,7 +30,8 @@ use messages::message::Reply;
 use messages::message::Status;
 use packets::Acted;
 use plan::Plan;
-use receiver::Progress;
+use receiver::Receiver;
+use receiver::Reception;
 use store::contents::ItemBytes;
 use store::fields;
 use wire::packet;
@@ -73,8 +79,7 @@ pub struct Board {
     pub id: u8,
     pub serial: ItemBytes,
     pub model: ItemBytes,
-    pub held: [u8; packet::MOST_PACKET],
-    pub len: u8,
+    pub receiver: Receiver,
     pub erase: Erase,
 }
 
@@ -111,6 +116,13 @@ pub struct Done {
     pub answer: Answer,
 }
 
+// The same before anything is stored, with the plan of what is.
+pub struct Planned {
+    pub board: Board,
+    pub answer: Answer,
+    pub plan: Plan,
+}
+
 pub enum StartAnswer {
     Ready,
     Refused(Refusal),
@@ -128,8 +140,9 @@ pub struct Started {
 }
 
 // Starts a board on a store.
-pub fn start(store: &mut [u8], id: u8, serial: &[u8], model: &[u8]) -> Started
-    ensures { λ r. ⌜ (startedOf r ≡ onStart boardKind (givenIdentity id (now (serial .entry)) (now (model .entry))) (now (store .entry))) × Refusing r × (now (store .exit) ≡ now (store .entry)) ⌝ }
+pub fn start(store: &[u8], id: u8, serial: &[u8], model: &[u8]) -> Started
+    ensures { λ r. ⌜ startedOf r ≡ onStart boardKind (givenIdentity id (now (serial .entry)) (now (model .entry))) (now (store .entry)) ⌝ }
+    ensures { λ r. ⌜ r .board ≡ startLeaves (onStart boardKind (givenIdentity id (now (serial .entry)) (now (model .entry))) (now (store .entry))) ⌝ }
 {
     let named = sound::is_identity(id, serial.len(), model.len());
     match start_state(store, named) {
@@ -137,7 +150,7 @@ pub fn start(store: &mut [u8], id: u8, serial: &[u8], model: &[u8]) -> Started
             return refused(refusal);
         }
         StartState::Ready(erase) => {
-            return fresh(id, serial, model, erase);
+            return ready(id, serial, model, erase);
         }
     }
 }
@@ -186,38 +199,44 @@ pub fn no_board() -> Board
         bytes: [0u8; 16],
         count: 0,
     };
+    let receiver = Receiver::empty();
     Board {
         id: 0,
         serial: none,
         model: none,
-        held: [0u8; packet::MOST_PACKET],
-        len: 0,
+        receiver,
         erase: Erase::Idle,
     }
 }
 
-// A board with nothing held.
-fn fresh(id: u8, serial: &[u8], model: &[u8], erase: Erase) -> Started
+// A start that gives a board.
+fn ready(id: u8, serial: &[u8], model: &[u8], erase: Erase) -> Started
     requires { ⌜ (length (now serial) ≤ 16) × (length (now model) ≤ 16) ⌝ }
-    ensures { λ r. ⌜ (r .answer ≡ StartAnswer.Ready) × (stateOf (r .board) ≡ freshState id (now (serial .entry)) (now (model .entry)) erase) ⌝ }
+    ensures { λ r. ⌜ (r .answer ≡ StartAnswer.Ready) × (r .board ≡ freshBoard (givenIdentity id (now (serial .entry)) (now (model .entry))) erase) ⌝ }
 {
-    let board = Board {
+    Started {
+        answer: StartAnswer::Ready,
+        board: fresh(id, serial, model, erase),
+    }
+}
+
+// A board with nothing held, and nothing of a past.
+fn fresh(id: u8, serial: &[u8], model: &[u8], erase: Erase) -> Board
+    requires { ⌜ (length (now serial) ≤ 16) × (length (now model) ≤ 16) ⌝ }
+    ensures { λ r. ⌜ r ≡ freshBoard (givenIdentity id (now (serial .entry)) (now (model .entry))) erase ⌝ }
+{
+    Board {
         id,
         serial: item_bytes(serial),
         model: item_bytes(model),
-        held: [0u8; packet::MOST_PACKET],
-        len: 0,
+        receiver: Receiver::empty(),
         erase,
-    };
-    Started {
-        answer: StartAnswer::Ready,
-        board,
     }
 }
 
 fn item_bytes(bytes: &[u8]) -> ItemBytes
     requires { ⌜ length (now bytes) ≤ 16 ⌝ }
-    ensures { λ r. ⌜ (identityBytes r ≡ now (bytes .entry)) × (r .count ≡ length (now (bytes .entry))) ⌝ }
+    ensures { λ r. ⌜ r ≡ itemValue (now (bytes .entry)) ⌝ }
 {
     let mut all = [0u8; 16];
     wire::digits::put_bytes(&mut all, 0, bytes);
@@ -230,174 +249,251 @@ fn item_bytes(bytes: &[u8]) -> ItemBytes
 impl Board {
     // One byte.
     pub fn byte(self, store: &mut [u8], b: u8, reply: &mut [u8]) -> Done
-        ensures { λ r. ⌜ gave r (now (store .exit)) (now (reply .exit)) ≡ result (onCall boardKind (kind.byte b) (stateOf self) (now (store .entry)) (now (reply .entry))) (now (store .entry)) ⌝ }
+        ensures { λ r. ⌜ Gives r (now (store .entry)) (now (store .exit)) (now (reply .exit)) (callLeaves (kind.byte b) self) (onCall boardKind (kind.byte b) (stateOf self) (now (store .entry)) (now (reply .entry))) ⌝ }
     {
-        let check = self.entry_check(store, reply.len() < packet::LEAST_BUFFER);
-        let EntryCheck::NonePending = check else {
-            return self.refuses(check.refusal(Refusal::ErasePending));
-        };
-        self.accepts(store, b, reply)
+        let planned = self.plan_byte(store, b, reply);
+        let plan = planned.plan;
+        let board = planned.board;
+        let answer = planned.answer;
+        plan::commit(plan, store);
+        Done { board, answer }
     }
 
     // A gap.
-    pub fn gap(mut self, store: &[u8]) -> Done
-        ensures { λ r. ⌜ gave r (now (store .entry)) [] ≡ result (onCall boardKind kind.gap (stateOf self) (now (store .entry)) []) (now (store .entry)) ⌝ }
+    pub fn gap(self, store: &[u8]) -> Done
+        ensures { λ r. ⌜ Gives r (now (store .entry)) (now (store .entry)) [] (callLeaves kind.gap self) (onCall boardKind kind.gap (stateOf self) (now (store .entry)) []) ⌝ }
     {
-        let check = self.entry_check(store, false);
+        let receiver = self.receiver;
+        let check = self.entry_check(receiver.asked(), store, false);
         let EntryCheck::NonePending = check else {
-            return self.refuses(check.refusal(Refusal::ErasePending));
+            return Done {
+                board: self,
+                answer: Answer::Refused(check.refusal(Refusal::ErasePending)),
+            };
         };
-        self.len = 0;
+        let received = receiver.gap();
+        let next = received.receiver;
         Done {
-            board: self,
+            board: self.with_receiver(next),
             answer: Answer::Waiting,
         }
     }
 
     // One erase step.
     pub fn step(self, store: &mut [u8], reply: &mut [u8]) -> Done
-        ensures { λ r. ⌜ gave r (now (store .exit)) (now (reply .exit)) ≡ result (onStep boardKind (stateOf self) (now (store .entry)) (now (reply .entry))) (now (store .entry)) ⌝ }
+        ensures { λ r. ⌜ Gives r (now (store .entry)) (now (store .exit)) (now (reply .exit)) (stepLeaves self) (onStep boardKind (stateOf self) (now (store .entry)) (now (reply .entry))) ⌝ }
     {
-        let check = self.entry_check(store, reply.len() < packet::LEAST_BUFFER);
-        let EntryCheck::Pending = check else {
-            return self.refuses(check.refusal(Refusal::NoErasePending));
-        };
-        self.erases(store, reply)
-    }
-
-    // The entry check, where a lent buffer is short or not.
-    fn entry_check(self, store: &[u8], short: bool) -> EntryCheck
-        ensures { λ r. ⌜ entryCheckAs r ≡ entryCheckOf boardKind short (stateOf self) (now (store .entry)) ⌝ }
-    {
-        let erase = self.erase;
-        calls::entry_check(short, self.is_sound(store), erase.is_pending())
-    }
-
-    // A refusal that changes nothing.
-    fn refuses(self, refusal: Refusal) -> Done
-        ensures { λ r. ⌜ (r .board ≡ self) × (r .answer ≡ Answer.Refused refusal) ⌝ }
-    {
-        Done {
-            board: self,
-            answer: Answer::Refused(refusal),
-        }
-    }
-
-    fn is_sound(self, store: &[u8]) -> bool
-        ensures { λ r. ⌜ r ≡ isSound boardKind (stateOf self) (now (store .entry)) ⌝ }
-    {
-        let serial = self.serial;
-        let model = self.model;
-        let erase = self.erase;
-        if !sound::is_identity(self.id, serial.count as usize, model.count as usize) {
-            return false;
-        }
-        sound::is_sound(&self.held, self.len, erase, store)
-    }
-
-    // One byte at a sound board with no erase pending.
-    fn accepts(mut self, store: &mut [u8], b: u8, reply: &mut [u8]) -> Done
-        requires { ⌜ Accepting self (now store) (now reply) ⌝ }
-        ensures { λ r. ⌜ gave r (now (store .exit)) (now (reply .exit)) ≡ result (kind.does (kind.byte b) (stateOf self) (now (store .entry)) (now (reply .entry))) (now (store .entry)) ⌝ }
-    {
-        let len = self.len;
-        match receiver::step(&mut self.held, len, b) {
-            Progress::Waiting => {
-                self.len = len + 1;
-                return Done {
-                    board: self,
-                    answer: Answer::Waiting,
-                };
-            }
-            Progress::Refused(refusal) => {
-                self.len = 0;
-                return Done {
-                    board: self,
-                    answer: Answer::Refused(refusal),
-                };
-            }
-            Progress::Whole => {
-                return self.acts(len as usize + 1, store, reply);
-            }
-        }
-    }
-
-    // A good packet: the first n bytes of the array.
-    fn acts(self, n: usize, store: &mut [u8], reply: &mut [u8]) -> Done
-        requires { ⌜ Acting self n (now store) (now reply) ⌝ }
-        ensures { λ r. ⌜ gave r (now (store .exit)) (now (reply .exit)) ≡ result (onPacket (stateOf self .ident) (now (store .entry)) (take n (self .held)) (now (reply .entry))) (now (store .entry)) ⌝ }
-    {
-        let serial = self.serial;
-        let model = self.model;
-        let held = self.held;
-        let acted = packets::on_packet(self.id, serial, model, &held, n, store, reply);
-        self.left(erase_after(acted), answer_after(acted))
-    }
-
-    // Nothing held, and an erase as given.
-    fn left(self, erase: Erase, answer: Answer) -> Done
-        ensures { λ r. ⌜ (stateOf (r .board) ≡ leftState self erase) × (r .answer ≡ answer) ⌝ }
-    {
-        let serial = self.serial;
-        let model = self.model;
-        let held = self.held;
-        let board = Board {
-            id: self.id,
-            serial,
-            model,
-            held,
-            len: 0,
-            erase,
-        };
+        let planned = self.plan_step(store, reply);
+        let plan = planned.plan;
+        let board = planned.board;
+        let answer = planned.answer;
+        plan::commit(plan, store);
         Done { board, answer }
     }
 
+    // What a byte comes to, and the plan of what it stores. A reply is written.
+    pub fn plan_byte(self, store: &[u8], b: u8, reply: &mut [u8]) -> Planned
+        ensures { λ r. ⌜ Plans r (now (reply .exit)) (callLeaves (kind.byte b) self) (onCall boardKind (kind.byte b) (stateOf self) (now (store .entry)) (now (reply .entry))) ⌝ }
+    {
+        let receiver = self.receiver;
+        let wanted = receiver.asked();
+        let check = self.entry_check(wanted, store, reply.len() < packet::LEAST_BUFFER);
+        let EntryCheck::NonePending = check else {
+            return self.refuses(check.refusal(Refusal::ErasePending));
+        };
+        self.accepts(wanted, store, b, reply)
+    }
+
+    // The same of an erase step.
+    pub fn plan_step(self, store: &[u8], reply: &mut [u8]) -> Planned
+        ensures { λ r. ⌜ Plans r (now (reply .exit)) (stepLeaves self) (onStep boardKind (stateOf self) (now (store .entry)) (now (reply .entry))) ⌝ }
+    {
+        let receiver = self.receiver;
+        let check = self.entry_check(receiver.asked(), store, reply.len() < packet::LEAST_BUFFER);
+        let EntryCheck::Pending = check else {
+            return self.refuses(check.refusal(Refusal::NoErasePending));
+        };
+        self.erases(reply)
+    }
+
+    // The entry check, where the held bytes ask for so many and a lent buffer is short or not.
+    fn entry_check(self, wanted: u8, store: &[u8], short: bool) -> EntryCheck
+        requires { ⌜ wanted ≡ asked (heldOf (self .receiver)) ⌝ }
+        ensures { λ r. ⌜ entryCheckAs r ≡ entryCheckOf boardKind short (stateOf self) (now (store .entry)) ⌝ }
+    {
+        let serial = self.serial;
+        let model = self.model;
+        let receiver = self.receiver;
+        let erase = self.erase;
+        let sound = sound::is_sound(
+            self.id,
+            serial.count,
+            model.count,
+            receiver.len,
+            wanted,
+            erase,
+            store,
+        );
+        calls::entry_check(short, sound, erase.is_pending())
+    }
+
+    // A refusal that changes nothing.
+    fn refuses(self, refusal: Refusal) -> Planned
+        ensures { λ r. ⌜ Planning r self (Answer.Refused refusal) [] ⌝ }
+    {
+        self.answers(Answer::Refused(refusal))
+    }
+
+    // An answer, and nothing to store.
+    fn answers(self, answer: Answer) -> Planned
+        ensures { λ r. ⌜ Planning r self answer [] ⌝ }
+    {
+        let plan = Plan::empty();
+        Planned {
+            board: self,
+            answer,
+            plan,
+        }
+    }
+
+    fn with_receiver(self, receiver: Receiver) -> Board
+        ensures { λ r. ⌜ r ≡ withReceiver self receiver ⌝ }
+    {
+        let serial = self.serial;
+        let model = self.model;
+        let erase = self.erase;
+        Board {
+            id: self.id,
+            serial,
+            model,
+            receiver,
+            erase,
+        }
+    }
+
+    fn with_erase(self, erase: Erase) -> Board
+        ensures { λ r. ⌜ r ≡ withErase self erase ⌝ }
+    {
+        let serial = self.serial;
+        let model = self.model;
+        let receiver = self.receiver;
+        Board {
+            id: self.id,
+            serial,
+            model,
+            receiver,
+            erase,
+        }
+    }
+
+    // The board made anew, with an erase: what a start gives with its identity.
+    fn anew(self, erase: Erase) -> Board
+        requires { ⌜ Sized self × (self .serial .count ≤ 16) × (self .model .count ≤ 16) ⌝ }
+        ensures { λ r. ⌜ r ≡ freshBoard (stateOf self .ident) erase ⌝ }
+    {
+        let serial = self.serial;
+        let model = self.model;
+        let serial_bytes = serial.bytes;
+        let model_bytes = model.bytes;
+        let m = serial.count as usize;
+        let n = model.count as usize;
+        fresh(self.id, &serial_bytes[..m], &model_bytes[..n], erase)
+    }
+
+    // One byte at a sound board with no erase pending, whose held bytes ask for so many.
+    fn accepts(self, wanted: u8, store: &[u8], b: u8, reply: &mut [u8]) -> Planned
+        requires { ⌜ Accepting self wanted (now store) (now reply) ⌝ }
+        ensures { λ r. ⌜ Plans r (now (reply .exit)) (callLeaves (kind.byte b) self) (kind.does (kind.byte b) (stateOf self) (now (store .entry)) (now (reply .entry))) ⌝ }
+    {
+        let receiver = self.receiver;
+        let received = receiver.accept(wanted, b);
+        let next = received.receiver;
+        let answer = received.answer;
+        let board = self.with_receiver(next);
+        match answer {
+            Reception::Waiting => {
+                return board.answers(Answer::Waiting);
+            }
+            Reception::Refused(refusal) => {
+                return board.answers(Answer::Refused(refusal));
+            }
+            Reception::Whole(n) => {
+                return board.acts(n as usize, store, reply);
+            }
+        }
+    }
+
+    // A good packet: the first n bytes of the array. Where it begins an erase the board is made anew.
+    fn acts(self, n: usize, store: &[u8], reply: &mut [u8]) -> Planned
+        requires { ⌜ Acting self n (now store) (now reply) ⌝ }
+        ensures { λ r. ⌜ Plans r (now (reply .exit)) (packetLeaves self) (onPacket (stateOf self .ident) (now (store .entry)) (take n (self .receiver .held)) (now (reply .entry))) ⌝ }
+    {
+        let serial = self.serial;
+        let model = self.model;
+        let receiver = self.receiver;
+        let held = receiver.held;
+        let planned = packets::on_packet(self.id, serial, model, &held, n, store, reply);
+        let plan = planned.plan;
+        let acted = planned.acted;
+        let answer = answer_after(acted);
+        let Acted::Begun(owed) = acted else {
+            return Planned {
+                board: self,
+                answer,
+                plan,
+            };
+        };
+        let board = self.anew(Erase::Pending(1, owed));
+        Planned {
+            board,
+            answer,
+            plan,
+        }
+    }
+
     // One step of a pending erase.
-    fn erases(self, store: &mut [u8], reply: &mut [u8]) -> Done
-        requires { ⌜ Erasing self (now store) (now reply) ⌝ }
-        ensures { λ r. ⌜ gave r (now (store .exit)) (now (reply .exit)) ≡ result (eraseStep boardKind (placeOf (eraseOf (self .erase))) (owedOf false (eraseOf (self .erase))) (stateOf self) (now (reply .entry))) (now (store .entry)) ⌝ }
+    fn erases(self, reply: &mut [u8]) -> Planned
+        requires { ⌜ Erasing self (now reply) ⌝ }
+        ensures { λ r. ⌜ Plans r (now (reply .exit)) (stepLeaves self) (eraseStep boardKind (placeOf (eraseOf (self .erase))) (owedOf false (eraseOf (self .erase))) (stateOf self) (now (reply .entry))) ⌝ }
     {
         let erase = self.erase;
         let place = erase.place();
         let owed = erase.owed();
         if place <= 127 {
-            return self.clears(place, owed, store);
+            return self.clears(place, owed);
         }
-        self.ends(owed, store, reply)
+        self.ends(owed, reply)
     }
 
     // A step that stores the unused value at its place.
-    fn clears(self, place: u8, owed: bool, store: &mut [u8]) -> Done
-        requires { ⌜ (place ≤ 127) × (length (now store) ≡ 128) ⌝ }
-        ensures { λ r. ⌜ (r .answer ≡ Answer.More) × (stateOf (r .board) ≡ leftState self (Erase.Pending (place + 1) owed)) × (now (store .exit) ≡ set (now (store .entry)) place (getD unusedStore place 0)) ⌝ }
+    fn clears(self, place: u8, owed: bool) -> Planned
+        requires { ⌜ place ≤ 127 ⌝ }
+        ensures { λ r. ⌜ Planning r (withErase self (Erase.Pending (place + 1) owed)) Answer.More (entry place (getD unusedStore place 0) ∷ []) ⌝ }
     {
         let unused = fields::unused();
         let p = place as usize;
         let plan = Plan::one(place, unused[p]);
-        plan::commit(plan, store);
-        self.left(Erase::Pending(place + 1, owed), Answer::More)
+        Planned {
+            board: self.with_erase(Erase::Pending(place + 1, owed)),
+            answer: Answer::More,
+            plan,
+        }
     }
 
     // The last step: the unused mark, and its answer.
-    fn ends(self, owed: bool, store: &mut [u8], reply: &mut [u8]) -> Done
-        requires { ⌜ (self .id ≤ mostId) × (length (now store) ≡ 128) × (leastBuffer ≤ length (now reply)) ⌝ }
-        ensures { λ r. ⌜ (answerOf (r .answer) ≡ kind.lastAnswer (stateOf self .ident) owed) × (stateOf (r .board) ≡ leftState self Erase.Idle) × (now (store .exit) ≡ set (now (store .entry)) 0 0) × (now (reply .exit) ≡ kind.lastBuffer (stateOf self .ident) owed (now (reply .entry))) ⌝ }
+    fn ends(self, owed: bool, reply: &mut [u8]) -> Planned
+        requires { ⌜ (self .id ≤ mostId) × (leastBuffer ≤ length (now reply)) ⌝ }
+        ensures { λ r. ⌜ (r .board ≡ withErase self Erase.Idle) × (storesOf (r .plan) ≡ entry 0 0 ∷ []) ⌝ }
+        ensures { λ r. ⌜ (answerOf (r .answer) ≡ kind.lastAnswer (stateOf self .ident) owed) × (now (reply .exit) ≡ kind.lastBuffer (stateOf self .ident) owed (now (reply .entry))) ⌝ }
     {
         let plan = Plan::one(0, fields::UNUSED_MARK);
-        plan::commit(plan, store);
         let id = self.id;
-        self.left(Erase::Idle, last_answer(id, owed, reply))
+        Planned {
+            board: self.with_erase(Erase::Idle),
+            answer: last_answer(id, owed, reply),
+            plan,
+        }
     }
-}
-
-// The erase after a packet: one that it began.
-fn erase_after(acted: Acted) -> Erase
-    ensures { λ r. ⌜ eraseOf r ≡ eraseAfter acted ⌝ }
-{
-    let Acted::Begun(owed) = acted else {
-        return Erase::Idle;
-    };
-    Erase::Pending(1, owed)
 }
 
 // What a packet answers.

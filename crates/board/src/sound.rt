@@ -1,11 +1,7 @@
 // Whether a board and its store are sound.
 ghost use mathlib.Core.Path.{_≡_};
-ghost use lib.ListN.{length, take};
-ghost use Rattle.wire.specs.Packet.{mostPacket};
-ghost use Rattle.calls.specs.Calls.{isSoundAs};
-ghost use Rattle.board.specs.BoardKind.{boardKind};
-ghost use Rattle.board.specs.View.{eraseOf};
-ghost use Rattle.board.specs.Inner.{identityFits, soundWith, pendingFits};
+ghost use lib.ListN.{length};
+ghost use Rattle.board.specs.Inner.{identityFits, soundFits, idleFits, pendingFits};
 use crate::board::Erase;
 use store::fields;
 use wire::packet;
@@ -26,17 +22,28 @@ pub fn is_identity(id: u8, serial: usize, model: usize) -> bool
     model <= 16
 }
 
-// The store, the held bytes and the erase agree.
-pub fn is_sound(held: &[u8; packet::MOST_PACKET], len: u8, erase: Erase, store: &[u8]) -> bool
-    requires { ⌜ length (now held) ≡ mostPacket ⌝ }
-    ensures { λ r. ⌜ r ≡ soundWith (take len (now (held .entry))) erase (now (store .entry)) ⌝ }
+// Identity, store, held bytes and erase agree. Of the held bytes it is told how many they are and how many they ask for, 0 where they are no proper
+// beginning.
+pub fn is_sound(
+    id: u8,
+    serial: u8,
+    model: u8,
+    len: u8,
+    wanted: u8,
+    erase: Erase,
+    store: &[u8],
+) -> bool
+    ensures { λ r. ⌜ r ≡ soundFits id serial model len wanted erase (now (store .entry)) ⌝ }
 {
+    if !is_identity(id, serial as usize, model as usize) {
+        return false;
+    }
     if store.len() != 128 {
         return false;
     }
     match erase {
         Erase::Idle => {
-            return is_sound_idle(held, len, store);
+            return is_sound_idle(wanted, store);
         }
         Erase::Pending(place, _) => {
             return is_sound_pending(len, place, store);
@@ -44,17 +51,17 @@ pub fn is_sound(held: &[u8; packet::MOST_PACKET], len: u8, erase: Erase, store: 
     }
 }
 
-fn is_sound_idle(held: &[u8; packet::MOST_PACKET], len: u8, store: &[u8]) -> bool
+fn is_sound_idle(wanted: u8, store: &[u8]) -> bool
     requires { ⌜ length (now store) ≡ 128 ⌝ }
-    ensures { λ r. ⌜ r ≡ isSoundAs boardKind (eraseOf Erase.Idle) (take len (now (held .entry))) (now (store .entry)) ⌝ }
+    ensures { λ r. ⌜ r ≡ idleFits wanted (now (store .entry)) ⌝ }
 {
     if store[0] != fields::UNUSED_MARK {
         return false;
     }
-    if !fields::fields_in_range(store) {
+    if wanted == 0 {
         return false;
     }
-    receiver::is_proper_beginning(held, len)
+    fields::fields_in_range(store)
 }
 
 fn is_sound_pending(len: u8, place: u8, store: &[u8]) -> bool

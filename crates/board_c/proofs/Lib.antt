@@ -1,3 +1,4 @@
 pub mod StateLaws
 pub mod Theorems
 pub mod AnswerLaws
+pub mod PastLaws

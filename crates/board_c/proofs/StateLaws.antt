@@ -14,6 +14,7 @@ use Rattle.store.proofs.FieldLaws.{copy-all}
 use Rattle.board.specs.declared.board.Board.{Board}
 use Rattle.calls.specs.Board.{placeOf}
 use Rattle.board.specs.View.{eraseOf}
+use Rattle.board.specs.Inner.{Sized}
 use Rattle.board_c.specs.State.{stateBytes, boardIn, countedItem, itemIn, eraseKind, eraseIn}
 use Rattle.board_c.specs.Inner.{identityPart, progressPart}
 use Rattle.board.specs.declared.board.Erase.{Erase}
@@ -48,17 +49,13 @@ behind-front o t r k h q =
     q ∙ sym (over-paste (take k o) o k (length-take-le k o h) t) ∙ ap (λ (s : List ℕ). paste s k t (length t)) (sym (front-over o k h))
 
 -- the arrays of a board by value have their lengths
-pub record Sized (b : Board) : Type 0 where
-  pub serial : length (b .serial .bytes) ≡ 16
-  pub model : length (b .model .bytes) ≡ 16
-  pub held : length (b .held) ≡ 73
 
 counted : (n : ℕ) (l : List ℕ) → length (map (λ (x : ℕ). x) l) ≡ n → length l ≡ n
 counted n l e = sym (length-map l (λ (x : ℕ). x)) ∙ e
 
 pub sized : (b : Board) → length (map (λ (x : ℕ). x) (b .serial .bytes)) ≡ 16 → length (map (λ (x : ℕ). x) (b .model .bytes)) ≡ 16
-    → length (map (λ (x : ℕ). x) (b .held)) ≡ 73 → Sized b
-sized b s m h = record { serial = counted 16 (b .serial .bytes) s; model = counted 16 (b .model .bytes) m; held = counted 73 (b .held) h }
+    → length (map (λ (x : ℕ). x) (b .receiver .held)) ≡ 73 → Sized b
+sized b s m h = record { serial = counted 16 (b .serial .bytes) s; model = counted 16 (b .model .bytes) m; held = counted 73 (b .receiver .held) h }
 
 -- ---- a board written
 
@@ -115,12 +112,12 @@ progress-put len held erase kind place o s q ek ep size l =
     behind-front o (progressPart len held erase) _ 35 (omega arith) (place-over ∙ rw parts)
 
 pub board-put : (b : Board) (o s r : List ℕ) → s ≡ over (identityPart (b .id) (b .serial) (b .model)) o
-    → r ≡ paste s 35 (progressPart (b .len) (b .held) (b .erase)) (length (progressPart (b .len) (b .held) (b .erase))) → length o ≡ 111
+    → r ≡ paste s 35 (progressPart (b .receiver .len) (b .receiver .held) (b .erase)) (length (progressPart (b .receiver .len) (b .receiver .held) (b .erase))) → length o ≡ 111
     → Sized b → r ≡ stateBytes b
 unfolding stateBytes
 board-put b o s r q w size z =
     let front = identityPart (b .id) (b .serial) (b .model) in
-    let rest = progressPart (b .len) (b .held) (b .erase) in
+    let rest = progressPart (b .receiver .len) (b .receiver .held) (b .erase) in
     let end : length front ≡ 35 = simp length-append (omega (arith, z .serial, z .model)) in
     let all : length (front ++ rest) ≡ length o = simp length-append (omega (arith, z .serial, z .model, z .held)) in
     paste-over front o 35 end s rest r q w ∙ over-all (front ++ rest) o all ∙ simp append-assoc
@@ -140,7 +137,7 @@ item-read s bytes e size =
 pub board-read : (s : List ℕ) (serial model : ItemBytes) (h : List ℕ) (e : Erase) → length s ≡ 111
     → serial ≡ itemIn (take 17 (drop 1 s)) → model ≡ itemIn (take 17 (drop 18 s))
     → h ≡ paste (replicate 73 0) 0 (take 73 (drop 36 s)) (length (take 73 (drop 36 s))) → e ≡ eraseIn (getD s 109 0) (getD s 110 0)
-    → record { id = getD s 0 0; serial = serial; model = model; held = h; len = getD s 35 0; erase = e } ≡ boardIn s
+    → record { id = getD s 0 0; serial = serial; model = model; receiver = record { held = h; len = getD s 35 0 }; erase = e } ≡ boardIn s
 unfolding boardIn
 board-read s serial model h e size qs qm qh qe =
     let l : length (take 73 (drop 36 s)) ≡ 73 = simp (length-take, length-drop) (omega arith) in
@@ -163,7 +160,7 @@ module _ (b : Board) (z : Sized b) where
   erase-bytes = eraseKind (b .erase) ∷ placeOf (eraseOf (b .erase)) ∷ []
 
   abbrev from-len : List ℕ
-  from-len = b .len ∷ (b .held ++ erase-bytes)
+  from-len = b .receiver .len ∷ (b .receiver .held ++ erase-bytes)
 
   abbrev from-model : List ℕ
   from-model = countedItem (b .model) ++ from-len
@@ -179,11 +176,11 @@ module _ (b : Board) (z : Sized b) where
   at-len : drop 35 (stateBytes b) ≡ from-len
   at-len = sym (drop-drop 17 18 (stateBytes b)) ∙ ap (drop 17) at-model ∙ drop-at (b .model .bytes) from-len 16 (z .model)
 
-  at-held : drop 36 (stateBytes b) ≡ b .held ++ erase-bytes
+  at-held : drop 36 (stateBytes b) ≡ b .receiver .held ++ erase-bytes
   at-held = sym (drop-drop 1 35 (stateBytes b)) ∙ ap (drop 1) at-len
 
   at-erase : drop 109 (stateBytes b) ≡ erase-bytes
-  at-erase = sym (drop-drop 73 36 (stateBytes b)) ∙ ap (drop 73) at-held ∙ drop-at (b .held) erase-bytes 73 (z .held)
+  at-erase = sym (drop-drop 73 36 (stateBytes b)) ∙ ap (drop 73) at-held ∙ drop-at (b .receiver .held) erase-bytes 73 (z .held)
 
   at-place : (n : ℕ) (s : List ℕ) → drop n (stateBytes b) ≡ s → (i : ℕ) → getD (stateBytes b) (n + i) 0 ≡ getD s i 0
   at-place n s e i = sym (getD-drop n (stateBytes b) i 0) ∙ ap (λ (s : List ℕ). getD s i 0) e
@@ -193,11 +190,11 @@ module _ (b : Board) (z : Sized b) where
   back =
       let serial : itemIn (drop 1 (stateBytes b)) ≡ b .serial = text-back (b .serial) from-model (z .serial) in
       let model : itemIn (drop 18 (stateBytes b)) ≡ b .model = ap itemIn at-model ∙ text-back (b .model) from-len (z .model) in
-      let held : take 73 (drop 36 (stateBytes b)) ≡ b .held = ap (take 73) at-held ∙ take-at (b .held) erase-bytes 73 (z .held) in
-      let len : getD (stateBytes b) 35 0 ≡ b .len = at-place 35 from-len at-len 0 in
+      let held : take 73 (drop 36 (stateBytes b)) ≡ b .receiver .held = ap (take 73) at-held ∙ take-at (b .receiver .held) erase-bytes 73 (z .held) in
+      let len : getD (stateBytes b) 35 0 ≡ b .receiver .len = at-place 35 from-len at-len 0 in
       let kind : getD (stateBytes b) 109 0 ≡ eraseKind (b .erase) = at-place 109 erase-bytes at-erase 0 in
       let place : getD (stateBytes b) 110 0 ≡ placeOf (eraseOf (b .erase)) = at-place 109 erase-bytes at-erase 1 in
       let pending : eraseIn (getD (stateBytes b) 109 0) (getD (stateBytes b) 110 0) ≡ b .erase =
       (λ j. eraseIn (kind j) (place j)) ∙ erase-back (b .erase) in
       rw (eq-eqb (length (stateBytes b)) 111 size-of)
-      (λ j. record { id = b .id; serial = serial j; model = model j; held = held j; len = len j; erase = pending j })
+      (λ j. record { id = b .id; serial = serial j; model = model j; receiver = record { held = held j; len = len j }; erase = pending j })

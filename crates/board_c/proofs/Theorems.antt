@@ -8,13 +8,14 @@ use lib.ListN.{length}
 use Rattle.calls.specs.Calls.{isShort, refuse, onCall, onStep}
 use Rattle.packets.specs.Packets.{isIdentity}
 use Rattle.board.specs.BoardKind.{Call, lends, boardKind}
-use Rattle.board.specs.View.{stateOf, noBoard}
+use Rattle.board.specs.View.{stateOf}
+use Rattle.board.specs.Values.{noBoard}
 use Rattle.board.specs.declared.board.Board.{Board}
 use Rattle.board.proofs.StartLaws.{no-id, unnamed-call-refused, unnamed-step-refused}
 use Rattle.board_c.specs.State.{boardIn, stateBytes, stateIn}
 use Rattle.board_c.proofs.StateLaws.{back}
 
-pub board-back : (b : Board) → length (b .serial .bytes) ≡ 16 → length (b .model .bytes) ≡ 16 → length (b .held) ≡ 73 → boardIn (stateBytes b) ≡ b
+pub board-back : (b : Board) → length (b .serial .bytes) ≡ 16 → length (b .model .bytes) ≡ 16 → length (b .receiver .held) ≡ 73 → boardIn (stateBytes b) ≡ b
 board-back b serial model held = back b (record { serial = serial; model = model; held = held })
 
 -- ---- a buffer of another size

@@ -10,7 +10,7 @@ use Rattle.board.specs.View.{eraseOf, stateOf, answerOf, answerKind}
 use Rattle.board.specs.declared.board.Board.{Board}
 use Rattle.board.specs.declared.board.Done.{Done}
 use Rattle.board.specs.declared.board.Erase.{Erase}
-use Rattle.board_c.specs.State.{countedItem, eraseKind, stateIn}
+use Rattle.board_c.specs.State.{countedItem, eraseKind, stateBytes, stateIn}
 use Rattle.board_c.specs.Exports.{refusalAs, lengthAs, keepsAll}
 
 -- ---- the two parts of a state's bytes
@@ -33,7 +33,8 @@ pub record Places (a : Answer ℕ) (refusal refusal′ size size′ : ℕ) : Typ
 -- the state is the next board's, where it has its size, but where nothing changes
 pub record Saves (a : Answer ℕ) (b : Board) (s s′ : List ℕ) : Type 0 where
   pub kept : keepsAll a ≡ true → s′ ≡ s
-  pub next : keepsAll a ≡ false → length s ≡ 111 → stateIn s′ ≡ stateOf b
+  pub bytes : keepsAll a ≡ false → length s ≡ 111 → s′ ≡ stateBytes b
+  pub shown : keepsAll a ≡ false → length s ≡ 111 → stateIn s′ ≡ stateOf b
 
 -- the result, the places, and the state
 pub record AnswerTold (d : Done) (r refusal refusal′ size size′ : ℕ) (s s′ : List ℕ) : Type 0 where

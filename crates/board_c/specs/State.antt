@@ -9,7 +9,8 @@ use Rattle.wire.specs.Packet.{mostPacket}
 use Rattle.store.specs.declared.contents.ItemBytes.{ItemBytes}
 use Rattle.packets.specs.Packets.{BoardState}
 use Rattle.calls.specs.Board.{placeOf}
-use Rattle.board.specs.View.{eraseOf, stateOf, noBoard}
+use Rattle.board.specs.View.{eraseOf, stateOf}
+use Rattle.board.specs.Values.{noBoard}
 use Rattle.board.specs.declared.board.Board.{Board}
 use Rattle.board.specs.declared.board.Erase.{Erase}
 
@@ -35,7 +36,7 @@ itemIn s = record { count = getD s 0 0; bytes = take 16 (drop 1 s) }
 
 unfoldable pub stateBytes : Board → List ℕ
 stateBytes b =
-    b .id ∷ (countedItem (b .serial) ++ (countedItem (b .model) ++ (b .len ∷ (b .held ++ (eraseKind (b .erase) ∷ placeOf (eraseOf (b .erase)) ∷ [])))))
+    b .id ∷ (countedItem (b .serial) ++ (countedItem (b .model) ++ (b .receiver .len ∷ (b .receiver .held ++ (eraseKind (b .erase) ∷ placeOf (eraseOf (b .erase)) ∷ [])))))
 
 -- a buffer of another size holds no board: the one that every call refuses
 unfoldable pub boardIn : List ℕ → Board
@@ -45,8 +46,7 @@ boardIn s =
       id = getD s 0 0;
       serial = itemIn (drop 1 s);
       model = itemIn (drop 18 s);
-      len = getD s 35 0;
-      held = take mostPacket (drop 36 s);
+      receiver = record { held = take mostPacket (drop 36 s); len = getD s 35 0 };
       erase = eraseIn (getD s 109 0) (getD s 110 0);
     })
     noBoard

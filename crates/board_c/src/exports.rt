@@ -1,5 +1,5 @@
 // Start, byte, gap and step for C. The result is the number of the answer's kind; a refusal's number and a reply's length go to lent
-// places. Where nothing changes, no byte of the state is written.
+// places. With refusals 1 and 9 to 13 the state's bytes are as they were.
 ghost use mathlib.Core.List.{[]};
 ghost use mathlib.Core.Path.{_≡_};
 ghost use lib.ListN.{length};
@@ -7,7 +7,8 @@ ghost use Rattle.calls.specs.Calls.{onCall, onStep, onStart};
 ghost use Rattle.board.specs.BoardKind as kind;
 ghost use Rattle.board.specs.BoardKind.{boardKind};
 ghost use Rattle.board.specs.View.{stateOf, answerOf, givenIdentity};
-ghost use Rattle.board_c.specs.State.{stateIn};
+ghost use Rattle.board.specs.Values.{callLeaves, stepLeaves};
+ghost use Rattle.board_c.specs.State.{boardIn, stateBytes, stateIn};
 ghost use Rattle.board_c.specs.Exports.{keepsAll, Leaves, Answers, startIn, Starts, unusedResult, unusedIn};
 ghost use Rattle.board_c.specs.Inner.{Places, Saves, AnswerTold};
 use crate::state;
@@ -24,10 +25,10 @@ pub extern "C" fn board_start(
     id: u8,
     serial: &[u8],
     model: &[u8],
-    store: &mut [u8],
+    store: &[u8],
     state: &mut [u8],
 ) -> u8
-    ensures { λ r. ⌜ Starts (startIn (length (now (state .entry))) (onStart boardKind (givenIdentity id (now (serial .entry)) (now (model .entry))) (now (store .entry)))) r (now (state .entry)) (now (state .exit)) × (now (store .exit) ≡ now (store .entry)) ⌝ }
+    ensures { λ r. ⌜ Starts (startIn (length (now (state .entry))) (onStart boardKind (givenIdentity id (now (serial .entry)) (now (model .entry))) (now (store .entry)))) r (now (state .entry)) (now (state .exit)) ⌝ }
 {
     let started = on_board::start(store, id, serial, model);
     let answer = started.answer;
@@ -51,7 +52,7 @@ pub extern "C" fn board_byte(
     size: &mut usize,
     refusal: &mut u8,
 ) -> u8
-    ensures { λ r. ⌜ Answers (onCall boardKind (kind.byte b) (stateIn (now (state .entry))) (now (store .entry)) (now (reply .entry))) r (now (refusal .entry)) (now (refusal .exit)) (now (size .entry)) (now (size .exit)) (now (state .entry)) (now (state .exit)) (now (store .entry)) (now (store .exit)) (now (reply .exit)) ⌝ }
+    ensures { λ r. ⌜ Answers (callLeaves (kind.byte b) (boardIn (now (state .entry)))) (onCall boardKind (kind.byte b) (stateIn (now (state .entry))) (now (store .entry)) (now (reply .entry))) r (now (refusal .entry)) (now (refusal .exit)) (now (size .entry)) (now (size .exit)) (now (state .entry)) (now (state .exit)) (now (store .entry)) (now (store .exit)) (now (reply .exit)) ⌝ }
 {
     let done = state::board_in(state).byte(store, b, reply);
     answered(done, state, size, refusal)
@@ -59,7 +60,7 @@ pub extern "C" fn board_byte(
 
 #[no_mangle]
 pub extern "C" fn board_gap(state: &mut [u8], store: &[u8], refusal: &mut u8) -> u8
-    ensures { λ r. ⌜ Leaves (onCall boardKind kind.gap (stateIn (now (state .entry))) (now (store .entry)) []) r (now (refusal .entry)) (now (refusal .exit)) (now (state .entry)) (now (state .exit)) ⌝ }
+    ensures { λ r. ⌜ Leaves (callLeaves kind.gap (boardIn (now (state .entry)))) (onCall boardKind kind.gap (stateIn (now (state .entry))) (now (store .entry)) []) r (now (refusal .entry)) (now (refusal .exit)) (now (state .entry)) (now (state .exit)) ⌝ }
 {
     let done = state::board_in(state).gap(store);
     let mut size: usize = 0;
@@ -74,7 +75,7 @@ pub extern "C" fn board_step(
     size: &mut usize,
     refusal: &mut u8,
 ) -> u8
-    ensures { λ r. ⌜ Answers (onStep boardKind (stateIn (now (state .entry))) (now (store .entry)) (now (reply .entry))) r (now (refusal .entry)) (now (refusal .exit)) (now (size .entry)) (now (size .exit)) (now (state .entry)) (now (state .exit)) (now (store .entry)) (now (store .exit)) (now (reply .exit)) ⌝ }
+    ensures { λ r. ⌜ Answers (stepLeaves (boardIn (now (state .entry)))) (onStep boardKind (stateIn (now (state .entry))) (now (store .entry)) (now (reply .entry))) r (now (refusal .entry)) (now (refusal .exit)) (now (size .entry)) (now (size .exit)) (now (state .entry)) (now (state .exit)) (now (store .entry)) (now (store .exit)) (now (reply .exit)) ⌝ }
 {
     let done = state::board_in(state).step(store, reply);
     answered(done, state, size, refusal)
@@ -131,7 +132,7 @@ fn save(answer: Answer, board: Board, state: &mut [u8])
 // Writes a board's state, from which it can be read again.
 fn put_state(board: Board, state: &mut [u8])
     requires { ⌜ length (now state) ≡ 111 ⌝ }
-    ensures { λ _. ⌜ stateIn (now (state .exit)) ≡ stateOf board ⌝ }
+    ensures { λ _. ⌜ (now (state .exit) ≡ stateBytes board) × (stateIn (now (state .exit)) ≡ stateOf board) ⌝ }
 {
     state::put_board(board, state)
 }

@@ -8,6 +8,7 @@ ghost use Rattle.board_c.specs.State.{boardIn, eraseIn, stateBytes, eras
 ghost use Rattle.board_c.specs.Inner.{identityPart, progressPart};
 use board::board::Board;
 use board::board::Erase;
+use receiver::Receiver;
 use store::contents::ItemBytes;
 use wire::digits;
 use wire::packet;
@@ -26,12 +27,15 @@ pub fn board_in(state: &[u8]) -> Board
     let model = item_in(&state[18..35]);
     let mut held = [0u8; packet::MOST_PACKET];
     digits::put_bytes(&mut held, 0, &state[36..109]);
+    let receiver = Receiver {
+        held,
+        len: state[35],
+    };
     Board {
         id: state[0],
         serial,
         model,
-        held,
-        len: state[35],
+        receiver,
         erase: erase_in(state[109], state[110]),
     }
 }
@@ -44,9 +48,10 @@ pub fn put_board(board: Board, state: &mut [u8])
     let serial = board.serial;
     let model = board.model;
     put_identity(board.id, serial, model, state);
-    let held = board.held;
+    let receiver = board.receiver;
+    let held = receiver.held;
     let erase = board.erase;
-    put_progress(board.len, held, erase, state);
+    put_progress(receiver.len, held, erase, state);
 }
 
 // Writes ID, serial number and model at the start of a state.

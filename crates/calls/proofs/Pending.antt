@@ -10,7 +10,7 @@ use lib.Seq.{getD-set-same, getD-set-other}
 use borrow.Author.Tests.{eq-eqb, le-leb}
 use Rattle.calls.specs.Board.{Identity, board}
 use Rattle.calls.specs.Kind.{Kind}
-use Rattle.calls.specs.Calls.{mark, eraseMark, firstBytes, isShort, Board, Left, entryCheck, refuse, erasing, isSoundAs, isSound, entryCheckOf, onCall, clearStep, endStep, stepOn, onStep, onStart}
+use Rattle.calls.specs.Calls.{mark, eraseMark, firstBytes, isShort, clearsAt, Board, Left, entryCheck, refuse, erasing, isSoundAs, isSound, entryCheckOf, onCall, clearStep, endStep, stepOn, onStep, onStart}
 use Rattle.calls.proofs.Demand.{wiped}
 use Rattle.calls.proofs.FirstBytes.{same-refl, clear-first, clear-next, clear-last}
 use Rattle.calls.proofs.Steps.{refusal-changes-nothing, step-clears-or-ends}
@@ -90,7 +90,7 @@ module _ {K : Kind} (L : Laws K) where
       → (isShort lent ≡ false → ltb n 127 ≡ true → P (clearStep K (suc n) owed (erasing K i (suc n) owed) lent))
       → (isShort lent ≡ false → ltb n 127 ≡ false → P (endStep K owed (erasing K i (suc n) owed) lent))
       → P (onStep K (erasing K i (suc n) owed) m lent)
-  unfolding onStep stepOn entryCheckOf entryCheck erasing
+  unfolding onStep stepOn entryCheckOf entryCheck erasing clearsAt
   pending-step {i} {n} P owed lent h short next last = rw (pending-sound owed h) (go (isShort lent) refl)
     where
       s : Board K

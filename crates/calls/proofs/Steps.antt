@@ -2,14 +2,12 @@
 use mathlib.Core.Path.{_≡_, refl, ap}
 use mathlib.Core.Bool.{Bool, true, false, _&&_}
 use mathlib.Core.List.{List, []}
-use Prim.Native.Nat.{ℕ, _≤_}
-use native.Mathlib.Omega.{arith}
-use lib.Dec.{leb}
+use Prim.Native.Nat.{ℕ}
 use lib.ListN.{length}
 use Rattle.wire.proofs.Tests.{cond-by}
 use Rattle.calls.specs.Board.{Erase, idle, pending, isPending, placeOf, owedOf}
 use Rattle.calls.specs.Kind.{Kind}
-use Rattle.calls.specs.Calls.{isShort, EntryCheck, refusedEntry, nonePendingEntry, pendingEntry, entryCheck, Board, Left, refuse, isSound, entryCheckOf, callOn, onCall, clearStep, endStep, eraseStep, stepOn, onStep}
+use Rattle.calls.specs.Calls.{isShort, clearsAt, EntryCheck, refusedEntry, nonePendingEntry, pendingEntry, entryCheck, Board, Left, refuse, isSound, entryCheckOf, callOn, onCall, clearStep, endStep, eraseStep, stepOn, onStep}
 
 -- the checks in their order, and the refusal by each
 pub record Refusals (K : Kind) : Type 0 where
@@ -65,12 +63,12 @@ pub pending-passed : (short sound erasePending : Bool) → entryCheck short soun
 pending-passed short sound erasePending e = rw e at (entry-tells short sound erasePending)
 
 module _ (K : Kind) where
-  -- up to place 127 a step clears the byte at its place, and past it a step is the last
+  -- a step clears the byte at its place, or is the last
   pub step-clears-or-ends : (P : Left K → Type 0) (p : ℕ) (owed : K .Owed) (s : Board K) (lent : List ℕ)
-      → (leb p 127 ≡ true → P (clearStep K p owed s lent)) → (leb p 127 ≡ false → P (endStep K owed s lent))
+      → (clearsAt p ≡ true → P (clearStep K p owed s lent)) → (clearsAt p ≡ false → P (endStep K owed s lent))
       → P (eraseStep K p owed s lent)
   unfolding eraseStep
-  step-clears-or-ends P p owed s lent = cond-by P (leb p 127) (clearStep K p owed s lent) (endStep K owed s lent)
+  step-clears-or-ends P p owed s lent = cond-by P (clearsAt p) (clearStep K p owed s lent) (endStep K owed s lent)
 
   -- ---- the checks
 
@@ -118,14 +116,6 @@ module _ (K : Kind) where
   clearing-stores-one : (p : ℕ) (owed : K .Owed) (s : Board K) (lent : List ℕ) → length (eraseStep K p owed s lent .stores) ≡ 1
   unfolding clearStep endStep
   clearing-stores-one p owed s lent = step-clears-or-ends (λ o. length (o .stores) ≡ 1) p owed s lent (λ t. refl) (λ t. refl)
-
-  -- a step stores one byte or none
-  pub step-stores-at-most-one : (s : Board K) (m lent : List ℕ) → length (onStep K s m lent .stores) ≤ 1
-  step-stores-at-most-one s m lent = go (stepped s m lent)
-    where
-      go : Stepped K s m lent (onStep K s m lent) → length (onStep K s m lent .stores) ≤ 1
-      go (refuses n e) = rw (e, refusal-stores-none) (omega arith)
-      go (clears p owed q h e) = rw (e, clearing-stores-one) (omega arith)
 
   -- while an erase is pending a call stores nothing
   pub pending-call-stores-none : (c : K .Call) (s : Board K) (m lent : List ℕ) (p : ℕ) (owed : K .Owed) → s .erase ≡ pending p owed

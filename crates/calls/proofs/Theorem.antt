@@ -81,11 +81,11 @@ module _ {K : Kind} (L : Laws K) where
   refusal-not-begun n s lent e = let z : _≡_ {A = ℕ} 0 1 = cc in omega arith
 
   -- what answers erase begun begins an erase, on a store in range
-  record Accepts (a : Acceptance K) : Type 0 where
-    begins : Begins K (a .given) (a .state) (a .lent) (left K a)
-    fits : Startable K (a .state .ident) (a .store)
+  pub record Accepts (a : Acceptance K) : Type 0 where
+    pub begins : Begins K (a .given) (a .state) (a .lent) (left K a)
+    pub fits : Startable K (a .state .ident) (a .store)
 
-  accepts : (a : Acceptance K) → Accepts a
+  pub accepts : (a : Acceptance K) → Accepts a
   unfolding left
   accepts a = go (called K (a .given) (a .state) (a .store) (a .lent))
     where

@@ -45,6 +45,10 @@ unfoldable pub entryCheck : (short sound erasePending : Bool) → EntryCheck
 entryCheck short sound erasePending =
     cond short (refusedEntry 10) (cond (not sound) (refusedEntry 12) (cond erasePending pendingEntry nonePendingEntry))
 
+-- at places up to 127 a step clears a byte
+unfoldable pub clearsAt : ℕ → Bool
+clearsAt p = leb p 127
+
 module _ (K : Kind) where
   abbrev pub Board : Type 0
   Board = State (K .Held) (K .Owed)
@@ -105,7 +109,7 @@ module _ (K : Kind) where
       }
 
   unfoldable pub eraseStep : ℕ → K .Owed → Board → List ℕ → Left
-  eraseStep p owed s lent = cond (leb p 127) (clearStep p owed s lent) (endStep owed s lent)
+  eraseStep p owed s lent = cond (clearsAt p) (clearStep p owed s lent) (endStep owed s lent)
 
   unfoldable pub stepOn : EntryCheck → Board → List ℕ → Left
   stepOn (refusedEntry n) s lent = refuse n s lent

@@ -69,7 +69,7 @@ fn check_codes() {
 fn places() {
     let mut store = fields::unused();
     let mut reply = [0u8; 64];
-    let started = board::board::start(&mut store, 1, b"", b"");
+    let started = board::board::start(&store, 1, b"", b"");
     let first = started.board;
     let asked = after_bytes(
         first,
@@ -98,7 +98,7 @@ fn show(name: &[u8], id: u8, bytes: &[u8]) {
     let mut store = fields::unused();
     let mut reply = [0u8; 64];
     let mut out = [0u8; 512];
-    let started = board::board::start(&mut store, id, b"", b"");
+    let started = board::board::start(&store, id, b"", b"");
     let board = started.board;
     show_lines(board, &mut store, bytes, &mut reply, &mut out);
 }
@@ -108,8 +108,9 @@ fn show_lines(first: Board, store: &mut [u8], bytes: &[u8], reply: &mut [u8], ou
     let mut board = first;
     let mut i: usize = 0;
     while i < bytes.len() {
-        board = show_byte(board, store, i as u64 + 1, bytes[i], reply, out);
+        let b = bytes[i];
         i += 1;
+        board = show_byte(board, store, i as u64, b, reply, out);
     }
 }
 
@@ -190,7 +191,7 @@ fn show_digits(n: u8) {
 // A start on an unused store: whether it is refused, and its number.
 fn start_shown(serial: &[u8]) {
     let mut store = fields::unused();
-    let started = board::board::start(&mut store, 1, serial, b"");
+    let started = board::board::start(&store, 1, serial, b"");
     let answer = started.answer;
     match answer {
         StartAnswer::Ready => {

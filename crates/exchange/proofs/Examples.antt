@@ -19,7 +19,7 @@ use Rattle.messages.specs.Text.{requestType, requestText, replyType, replyText,
 use Rattle.messages.specs.Read.{beginsWith, isName, getIn, setIn, commandIn, requestIn}
 use Rattle.receiver.specs.Receive.{isProperBeginning}
 use Rattle.plan.specs.Stores.{Entry, entry, applied}
-use Rattle.calls.specs.Calls.{mark, same, firstBytes, isShort, isSoundAs, isSound, atRest, stepOn, onStep, entryCheck, entryCheckOf, endStep, eraseStep}
+use Rattle.calls.specs.Calls.{clearsAt, mark, same, firstBytes, isShort, isSoundAs, isSound, atRest, stepOn, onStep, entryCheck, entryCheckOf, endStep, eraseStep}
 use Rattle.calls.specs.Lists.{seen, run}
 use Rattle.store.specs.Fields.{fieldStores}
 use Rattle.store.specs.Layout.{fieldsInRange, unusedStore}
@@ -65,7 +65,7 @@ module _ (m : List ℕ) (kind : ℕ) (text : List ℕ) (r : Reply) (es : List En
 -- ---- the last step of an erase
 
 last-step : (lent : List ℕ) → 64 ≤ length lent → onStep boardKind atLastPlace (set unusedBytes 0 0xE7) lent ≡ endStep boardKind true atLastPlace lent
-unfolding onStep stepOn entryCheckOf entryCheck eraseStep isShort isSound isSoundAs isIdentity mark same firstBytes unusedStore
+unfolding onStep stepOn entryCheckOf entryCheck eraseStep isShort isSound isSoundAs isIdentity mark same firstBytes unusedStore clearsAt
 last-step lent h = rw (le-ltb (length lent) 64 h)
 
 erased : Holds (examples.erases p7)

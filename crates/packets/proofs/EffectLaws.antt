@@ -1,5 +1,5 @@
 -- What a good packet stores, request by request, by the store's laws: few bytes, within the store, not the mark, and every field stays in range.
-use mathlib.Core.Path.{_≡_, refl, _∙_, subst}
+use mathlib.Core.Path.{_≡_, refl, subst}
 use mathlib.Core.Bool.{true, _&&_}
 use mathlib.Core.List.{List, [], _∷_}
 use mathlib.Core.Logic.{inl}
@@ -10,7 +10,6 @@ use lib.Dec.{eqb}
 use lib.ListN.{length, getD}
 use Rattle.plan.specs.Stores.{Entry, applied}
 use Rattle.plan.specs.Inner.{Within, Committable}
-use Rattle.plan.proofs.Laws.{applied-length}
 use Rattle.wire.proofs.Tests.{cond-by, both}
 use Rattle.messages.specs.Message.{Request, Reply, IsRequest}
 use Rattle.messages.specs.Message.Request.{getParameter, setParameter, powerRead, powerControl, dateRead, dateWrite, itemRead, tagWrite}
@@ -164,12 +163,3 @@ module _ (i : Identity) (m : List ℕ) (kind : ℕ) (text : List ℕ) {r : Reply
 
   pub effect-ready : Committable 128 es
   effect-ready = effect-keeps .ready
-
-  pub effect-few : length es ≤ 40
-  effect-few = effect-ready .few
-
-  pub effect-within : Within 128 es
-  effect-within = effect-ready .within
-
-  pub effect-length : length (applied es m) ≡ 128
-  effect-length = applied-length es m ∙ size

@@ -3,3 +3,4 @@ pub mod IdentityLaws
 pub mod DecisionLaws
 pub mod ReplyLaws
 pub mod SendLaws
+pub mod PlanLaws

@@ -5,12 +5,13 @@ use Prim.Native.Nat.{ℕ, _≤_}
 use lib.ListN.{length}
 use Rattle.wire.specs.Packet.{mostId, leastBuffer}
 use Rattle.store.specs.declared.contents.ItemBytes.{ItemBytes}
+use Rattle.plan.specs.Plans.{storesOf}
 use Rattle.calls.specs.Board as calls
 use Rattle.actions.specs.Inner.{StoreInRange}
 use Rattle.packets.specs.Packets as packets
-use Rattle.packets.specs.View.{Result}
 use Rattle.packets.specs.declared.Addressee.{Addressee}
 use Rattle.packets.specs.declared.Acted.{Acted}
+use Rattle.packets.specs.declared.Planned.{Planned}
 
 abbrev pub addresseeOf : Addressee → packets.Addressee
 addresseeOf Addressee.Own = packets.own
@@ -42,6 +43,12 @@ eraseAfter Acted.Silent = calls.idle
 eraseAfter (Acted.Begun owed) = calls.pending 1 owed
 eraseAfter (Acted.Reply n) = calls.idle
 
-abbrev pub acted : Acted → calls.Identity → List ℕ → List ℕ → Result
-acted a i m lent =
-    record { answer = answerAfter a; state = record { ident = i; held = []; erase = eraseAfter a }; store = m; buffer = lent }
+-- the outcome at a board of an identity whose buffer is left so
+abbrev pub outcomeOf : Planned → calls.Identity → List ℕ → packets.BoardOutcome
+outcomeOf r i lent =
+    record {
+      answer = answerAfter (r .acted);
+      state = record { ident = i; held = []; erase = eraseAfter (r .acted) };
+      stores = storesOf (r .plan);
+      buffer = lent;
+    }

@@ -1,3 +1,2 @@
 pub mod Packets
-pub mod View
 pub mod Inner

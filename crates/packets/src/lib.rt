@@ -1,11 +1,14 @@
-// What a good packet does to the store, and the reply that it gets.
-ghost use mathlib.Core.List.{[]};
+// What a good packet stores, as a plan, and the reply that it gets.
+ghost use mathlib.Core.List.{[], _∷_};
 ghost use mathlib.Core.Path.{_≡_};
 ghost use Prim.Native.Nat.{_≤_};
-ghost use lib.ListN.{length, getD, set, take};
+ghost use lib.ListN.{length, getD, take};
 ghost use Rattle.wire.specs.Inner.{Whole};
 ghost use Rattle.wire.specs.Packet.{mostId, leastBuffer, over, packetText};
+ghost use Rattle.plan.specs.Stores.{entry};
+ghost use Rattle.plan.specs.Plans.{storesOf};
 ghost use Rattle.calls.specs.Calls.{eraseMark};
+ghost use Rattle.packets.specs.declared.Acted.{Acted};
 ghost use Rattle.messages.specs.View.{replyOf};
 ghost use Rattle.messages.specs.Inner.{replyCount};
 ghost use Rattle.messages.specs.Read.{requestIn};
@@ -13,8 +16,7 @@ ghost use Rattle.parser.specs.View.{parsed};
 ghost use Rattle.actions.specs.Act.{effect};
 ghost use Rattle.packets.specs.Packets.{replyWith, addressee, onPacket, toOwn, toAll};
 ghost use Rattle.actions.specs.View.{identityOf};
-ghost use Rattle.packets.specs.View.{result};
-ghost use Rattle.packets.specs.Inner.{addresseeOf, acted, Serving, Addressed};
+ghost use Rattle.packets.specs.Inner.{addresseeOf, outcomeOf, Serving, Addressed};
 use actions::Effect;
 use messages::message::Reply;
 use messages::write;
@@ -31,12 +33,18 @@ pub enum Addressee {
     Another,
 }
 
-// What a packet brought about.
+// What a packet brings about.
 pub enum Acted {
     Refused,
     Silent,
     Begun(bool),
     Reply(usize),
+}
+
+// The same, with the plan of what it stores.
+pub struct Planned {
+    pub acted: Acted,
+    pub plan: Plan,
 }
 
 // A good packet: the first n bytes.
@@ -46,12 +54,12 @@ pub fn on_packet(
     model: ItemBytes,
     bytes: &[u8],
     n: usize,
-    store: &mut [u8],
+    store: &[u8],
     reply: &mut [u8],
-) -> Acted
+) -> Planned
     requires { ⌜ (n ≤ length (now bytes)) × Whole (take n (now bytes)) ⌝ }
     requires { ⌜ Addressed id serial model (now store) (now reply) ⌝ }
-    ensures { λ r. ⌜ acted r (identityOf id serial model) (now (store .exit)) (now (reply .exit)) ≡ result (onPacket (identityOf id serial model) (now (store .entry)) (take n (now (bytes .entry))) (now (reply .entry))) (now (store .entry)) ⌝ }
+    ensures { λ r. ⌜ outcomeOf r (identityOf id serial model) (now (reply .exit)) ≡ onPacket (identityOf id serial model) (now (store .entry)) (take n (now (bytes .entry))) (now (reply .entry)) ⌝ }
 {
     let packet = &bytes[..n];
     let asked = asked_in(packet);
@@ -63,7 +71,11 @@ pub fn on_packet(
             return for_all(id, serial, model, asked, store);
         }
         Addressee::Another => {
-            return Acted::Refused;
+            let plan = Plan::empty();
+            return Planned {
+                acted: Acted::Refused,
+                plan,
+            };
         }
     }
 }
@@ -90,59 +102,63 @@ fn addressee_of(id: u8, dest: u8) -> Addressee
     Addressee::Another
 }
 
-// For this board: stored and replied, or an erase begun that owes the reply.
+// For this board: a reply and what it stores, or the beginning of an erase that owes the reply.
 fn for_own(
     id: u8,
     serial: ItemBytes,
     model: ItemBytes,
     asked: ParsedRequest,
-    store: &mut [u8],
+    store: &[u8],
     reply: &mut [u8],
-) -> Acted
+) -> Planned
     requires { ⌜ Addressed id serial model (now store) (now reply) ⌝ }
-    ensures { λ r. ⌜ acted r (identityOf id serial model) (now (store .exit)) (now (reply .exit)) ≡ result (toOwn (identityOf id serial model) (effect (identityOf id serial model) (now (store .entry)) (parsed asked)) (now (reply .entry))) (now (store .entry)) ⌝ }
+    ensures { λ r. ⌜ outcomeOf r (identityOf id serial model) (now (reply .exit)) ≡ toOwn (identityOf id serial model) (effect (identityOf id serial model) (now (store .entry)) (parsed asked)) (now (reply .entry)) ⌝ }
 {
     let decision = actions::decide(id, serial, model, asked, store);
     let effect = decision.effect;
     let Effect::Replies(answer) = effect else {
-        begin(store);
-        return Acted::Begun(true);
+        return begins(true);
     };
     let plan = decision.plan;
     let bytes = decision.bytes;
-    plan::commit(plan, store);
-    Acted::Reply(send(id, answer, bytes, reply))
+    Planned {
+        acted: Acted::Reply(send(id, answer, bytes, reply)),
+        plan,
+    }
 }
 
-// For all boards: stored in silence, or an erase begun that owes nothing.
+// For all boards: what is stored, in silence, or the beginning of an erase that owes nothing.
 fn for_all(
     id: u8,
     serial: ItemBytes,
     model: ItemBytes,
     asked: ParsedRequest,
-    store: &mut [u8],
-) -> Acted
+    store: &[u8],
+) -> Planned
     requires { ⌜ Serving id serial model (now store) ⌝ }
-    ensures { λ r. ⌜ acted r (identityOf id serial model) (now (store .exit)) [] ≡ result (toAll (identityOf id serial model) (effect (identityOf id serial model) (now (store .entry)) (parsed asked)) []) (now (store .entry)) ⌝ }
+    ensures { λ r. ⌜ outcomeOf r (identityOf id serial model) [] ≡ toAll (identityOf id serial model) (effect (identityOf id serial model) (now (store .entry)) (parsed asked)) [] ⌝ }
 {
     let decision = actions::decide(id, serial, model, asked, store);
     let effect = decision.effect;
     let Effect::Replies(_) = effect else {
-        begin(store);
-        return Acted::Begun(false);
+        return begins(false);
     };
     let plan = decision.plan;
-    plan::commit(plan, store);
-    Acted::Silent
+    Planned {
+        acted: Acted::Silent,
+        plan,
+    }
 }
 
-// The mark of a pending erase in byte 0.
-fn begin(store: &mut [u8])
-    requires { ⌜ length (now store) ≡ 128 ⌝ }
-    ensures { λ _. ⌜ now (store .exit) ≡ set (now (store .entry)) 0 eraseMark ⌝ }
+// The beginning of an erase: its mark in byte 0.
+fn begins(owed: bool) -> Planned
+    ensures { λ r. ⌜ (r .acted ≡ Acted.Begun owed) × (storesOf (r .plan) ≡ entry 0 eraseMark ∷ []) ⌝ }
 {
     let plan = Plan::one(0, calls::ERASE_MARK);
-    plan::commit(plan, store);
+    Planned {
+        acted: Acted::Begun(owed),
+        plan,
+    }
 }
 
 // Writes the packet of a reply from the board with an ID; its length.

@@ -17,8 +17,7 @@ use Rattle.calls.specs.Lists.{Event, call, step, cut, answered, seen, from, run
 use Rattle.packets.specs.Packets.{BoardState, BoardOutcome}
 use Rattle.board.specs.BoardKind.{Call, byte, gap, does, boardKind}
 use Rattle.board.specs.Demand3.{Events}
-use Rattle.packets.specs.View.{Result, result}
-use Rattle.board.specs.View.{answerOf, answerKind, gave, startedOf}
+use Rattle.board.specs.View.{answerOf, answerKind, gave, startedOf, Result, result}
 use Rattle.board.specs.declared.board.Answer.{Answer}
 use Rattle.board.specs.declared.board.Done.{Done}
 use Rattle.board.specs.declared.board.Started.{Started}

@@ -46,8 +46,12 @@ grown held =
     (cond (ltb (length held) (size held)) (keeps held)
     (judged (packetVerdict held) (delivers held))))
 
+-- a byte behind held ones is one more
+unfoldable pub behind : List ℕ → ℕ → Receipt
+behind held b = grown (held ++ (b ∷ []))
+
 unfoldable pub accept : List ℕ → ℕ → Receipt
-accept held b = cond (eqb (length held) 0) (begin b) (grown (held ++ (b ∷ [])))
+accept held b = cond (eqb (length held) 0) (begin b) (behind held b)
 
 abbrev pub isGood : Verdict → Bool
 isGood judge.good = true

@@ -1,21 +1,22 @@
 // How bytes become a packet.
-ghost use mathlib.Core.Bool.{true, _&&_};
-ghost use mathlib.Core.List.{List};
+ghost use mathlib.Core.Bool.{true};
 ghost use mathlib.Core.Path.{_≡_};
-ghost use Prim.Native.Nat.{ℕ, _+_, _≤_};
-ghost use lib.Dec.{ltb};
+ghost use Prim.Native.Nat.{_+_, _≤_};
 ghost use lib.ListN.{length, take};
-ghost use Rattle.wire.specs.Judge.{headerVerdict, verdict as verdictOf};
-ghost use Rattle.wire.specs.Packet.{size};
-ghost use Rattle.receiver.specs.Receive.{accept, grown, isGood, isProperBeginning, judged, onByte, onGap};
-ghost use Rattle.receiver.specs.View.{heldOf, receipt};
-ghost use Rattle.receiver.specs.Inner.{progressReceipt, GrownBeginning};
+ghost use Rattle.receiver.specs.Receive.{accept, grown, isProperBeginning, onByte, onGap};
+ghost use Rattle.receiver.specs.View.{heldOf, receptionIn, WholeOf, receipt, emptyReceiver, emptied, receiverAfter};
+ghost use Rattle.receiver.specs.Inner.{checkpoint, asked, askedBehind, keptAfter, arrayAfter, orRefused, GrownBeginning};
 use wire::packet;
 use wire::packet::Judged;
 use wire::refusal::Refusal;
 
 // Of the longest packet at least the last byte is not held.
 const MOST_HELD: u8 = 72;
+
+// How many bytes are asked for first, those of a header, and then: fewer than any packet has, and as many as `size` may ever look at.
+pub const HEADER: u8 = 7;
+
+const SIZED: u8 = 12;
 
 // What a byte brings about. A whole packet is the first bytes of the array, as many as it counts.
 pub enum Reception {
@@ -24,11 +25,16 @@ pub enum Reception {
     Whole(u8),
 }
 
-// What a byte behind the held ones comes to.
-pub enum Progress {
-    Waiting,
-    Refused(Refusal),
-    Whole,
+impl Reception {
+    // How many bytes are held after it, where there are n with the new one.
+    fn kept(self, n: u8) -> u8
+        ensures { λ r. ⌜ r ≡ keptAfter self n ⌝ }
+    {
+        let Reception::Waiting = self else {
+            return 0;
+        };
+        n
+    }
 }
 
 // The held bytes: the first of the array, as many as len says.
@@ -44,45 +50,62 @@ pub struct Received {
 }
 
 impl Receiver {
-    // One byte. Held bytes that are no proper beginning of a packet are refused, unchanged.
-    pub fn byte(mut self, b: u8) -> Received
-        ensures { λ r. ⌜ receipt r ≡ onByte (heldOf self) b ⌝ }
+    // Nothing held.
+    pub fn empty() -> Self
+        ensures { λ r. ⌜ r ≡ emptyReceiver ⌝ }
     {
-        let len = self.len;
-        if !is_proper_beginning(&self.held, len) {
+        Receiver {
+            held: [0u8; packet::MOST_PACKET],
+            len: 0,
+        }
+    }
+
+    // How many bytes the held ones ask for; 0 where they are no proper beginning of a packet.
+    pub fn asked(self) -> u8
+        ensures { λ r. ⌜ r ≡ asked (heldOf self) ⌝ }
+    {
+        let held = self.held;
+        asked_for(&held, self.len)
+    }
+
+    // One byte. Held bytes that are no proper beginning of a packet are refused, unchanged.
+    pub fn byte(self, b: u8) -> Received
+        ensures { λ r. ⌜ receipt r ≡ onByte (heldOf self) b ⌝ }
+        ensures { λ r. ⌜ WholeOf (r .answer) (self .len + 1) ⌝ }
+        ensures { λ r. ⌜ r .receiver ≡ receiverAfter self b (onByte (heldOf self) b .answer) ⌝ }
+    {
+        let asked = self.asked();
+        if asked == 0 {
             return Received {
                 receiver: self,
                 answer: Reception::Refused(Refusal::Unsound),
             };
         }
-        match step(&mut self.held, len, b) {
-            Progress::Waiting => {
-                self.len = len + 1;
-                return Received {
-                    receiver: self,
-                    answer: Reception::Waiting,
-                };
-            }
-            Progress::Refused(refusal) => {
-                self.len = 0;
-                return Received {
-                    receiver: self,
-                    answer: Reception::Refused(refusal),
-                };
-            }
-            Progress::Whole => {
-                self.len = 0;
-                return Received {
-                    receiver: self,
-                    answer: Reception::Whole(len + 1),
-                };
-            }
-        }
+        self.accept(asked, b)
+    }
+
+    // One byte behind held ones that are a proper beginning and ask for so many.
+    pub fn accept(self, asked: u8, b: u8) -> Received
+        requires { ⌜ isProperBeginning (heldOf self) ≡ true ⌝ }
+        requires { ⌜ asked ≡ checkpoint (heldOf self) ⌝ }
+        ensures { λ r. ⌜ receipt r ≡ accept (heldOf self) b ⌝ }
+        ensures { λ r. ⌜ WholeOf (r .answer) (self .len + 1) ⌝ }
+        ensures { λ r. ⌜ r .receiver ≡ receiverAfter self b (accept (heldOf self) b .answer) ⌝ }
+    {
+        let len = self.len;
+        let mut held = self.held;
+        let answer = advance(&mut held, len, asked, b);
+        let receiver = Receiver {
+            held,
+            len: answer.kept(len + 1),
+        };
+        Received { receiver, answer }
     }
 
     // A gap empties the receiver.
     pub fn gap(mut self) -> Received
         ensures { λ r. ⌜ receipt r ≡ onGap ⌝ }
+        ensures { λ r. ⌜ r .receiver ≡ emptied self ⌝ }
     {
         self.len = 0;
         Received {
@@ -92,80 +115,99 @@ impl Receiver {
     }
 }
 
-// Whether the first len bytes are a proper beginning of a packet.
-pub fn is_proper_beginning(held: &[u8; packet::MOST_PACKET], len: u8) -> bool
-    ensures { λ r. ⌜ r ≡ isProperBeginning (take len (now (held .entry))) ⌝ }
+// How many bytes the first len ask for; 0 where they are no proper beginning of a packet.
+pub fn asked_for(held: &[u8; packet::MOST_PACKET], len: u8) -> u8
+    ensures { λ r. ⌜ r ≡ asked (take len (now (held .entry))) ⌝ }
 {
     let bytes: &[u8] = held;
     if len == 0 {
-        return true;
+        return HEADER;
     }
     if bytes[0] != packet::SOH {
-        return false;
+        return 0;
     }
-    if len < 7 {
-        return true;
+    if len < HEADER {
+        return HEADER;
     }
     if MOST_HELD < len {
-        return false;
+        return 0;
     }
-    is_good_beginning(bytes, len as usize)
+    asked_behind_header(bytes, len)
 }
 
-// Whether the first n bytes, seven or more, have a good header and are not all bytes of the packet.
-fn is_good_beginning(bytes: &[u8], n: usize) -> bool
-    requires { ⌜ (7 ≤ n) × (n ≤ length (now bytes)) ⌝ }
-    ensures { λ r. ⌜ r ≡ isGood (headerVerdict (take n (now (bytes .entry)))) && ltb n (size (take n (now (bytes .entry)))) ⌝ }
-{
-    let held = &bytes[..n];
-    let Judged::Good = packet::judge_header(held) else {
-        return false;
-    };
-    n < packet::size(held)
-}
-
-// One byte behind the first len, which are a proper beginning. A whole packet is these and the byte.
-pub fn step(held: &mut [u8; packet::MOST_PACKET], len: u8, b: u8) -> Progress
-    requires { ⌜ isProperBeginning (take len (now held)) ≡ true ⌝ }
-    ensures { λ r. ⌜ len ≤ 72 ⌝ }
-    ensures { λ r. ⌜ progressReceipt r (take (len + 1) (now (held .exit))) ≡ accept (take len (now (held .entry))) b ⌝ }
+// The same of seven bytes or more: with a good header, as long as they are not all bytes of the packet.
+fn asked_behind_header(bytes: &[u8], len: u8) -> u8
+    requires { ⌜ (7 ≤ len) × (len ≤ 72) × (len ≤ length (now bytes)) ⌝ }
+    ensures { λ r. ⌜ r ≡ askedBehind (take len (now (bytes .entry))) ⌝ }
 {
     let n = len as usize;
-    let bytes: &mut [u8] = held;
-    bytes[n] = b;
-    if n == 0 {
-        if b != packet::SOH {
-            return Progress::Refused(Refusal::NoStart);
-        }
-        return Progress::Waiting;
-    }
-    judge(bytes, n + 1)
-}
-
-// What the first n bytes come to, the last of them new.
-fn judge(bytes: &[u8], n: usize) -> Progress
-    requires { ⌜ (n ≤ length (now bytes)) × GrownBeginning (take n (now bytes)) ⌝ }
-    ensures { λ r. ⌜ progressReceipt r (take n (now (bytes .entry))) ≡ grown (take n (now (bytes .entry))) ⌝ }
-{
     let held = &bytes[..n];
-    if n < 7 {
-        return Progress::Waiting;
+    let Judged::Good = packet::judge_header(held) else {
+        return 0;
+    };
+    if len < SIZED {
+        return SIZED;
     }
-    if n == 7 {
-        return unless_refused(packet::judge_header(held), Progress::Waiting);
+    let size = packet::size(held);
+    if n < size {
+        return size as u8;
     }
-    if n < packet::size(held) {
-        return Progress::Waiting;
-    }
-    unless_refused(packet::judge_packet(held), Progress::Whole)
+    0
 }
 
-// The progress, unless the verdict is a refusal.
-fn unless_refused(verdict: Judged, progress: Progress) -> Progress
-    ensures { λ r. ⌜ ((held : List ℕ) → progressReceipt r held ≡ judged (verdictOf verdict) (progressReceipt progress held)) ⌝ }
+// One byte behind the first len, which are a proper beginning and ask for so many. With refusal 1 the array is as it was.
+pub fn advance(held: &mut [u8; packet::MOST_PACKET], len: u8, asked: u8, b: u8) -> Reception
+    requires { ⌜ isProperBeginning (take len (now held)) ≡ true ⌝ }
+    requires { ⌜ asked ≡ checkpoint (take len (now held)) ⌝ }
+    ensures { λ r. ⌜ len ≤ 72 ⌝ }
+    ensures { λ r. ⌜ receptionIn r (now (held .exit)) ≡ accept (take len (now (held .entry))) b .answer ⌝ }
+    ensures { λ r. ⌜ WholeOf r (len + 1) ⌝ }
+    ensures { λ r. ⌜ take (keptAfter r (len + 1)) (now (held .exit)) ≡ accept (take len (now (held .entry))) b .held ⌝ }
+    ensures { λ r. ⌜ now (held .exit) ≡ arrayAfter (now (held .entry)) len b (accept (take len (now (held .entry))) b .answer) ⌝ }
+{
+    if (len == 0) & (b != packet::SOH) {
+        return Reception::Refused(Refusal::NoStart);
+    }
+    let bytes: &mut [u8] = held;
+    bytes[len as usize] = b;
+    reached(bytes, len + 1, asked)
+}
+
+// What the first n bytes come to, the last of them new, where so many were asked for.
+fn reached(bytes: &[u8], n: u8, asked: u8) -> Reception
+    requires { ⌜ (n ≤ length (now bytes)) × GrownBeginning (take n (now bytes)) asked ⌝ }
+    ensures { λ r. ⌜ receptionIn r (now (bytes .entry)) ≡ grown (take n (now (bytes .entry))) .answer ⌝ }
+    ensures { λ r. ⌜ WholeOf r n ⌝ }
+{
+    if n < asked {
+        return Reception::Waiting;
+    }
+    judge(bytes, n)
+}
+
+// What the first n bytes come to, seven or more.
+fn judge(bytes: &[u8], n: u8) -> Reception
+    requires { ⌜ (7 ≤ n) × (n ≤ length (now bytes)) × GrownBeginning (take n (now bytes)) n ⌝ }
+    ensures { λ r. ⌜ receptionIn r (now (bytes .entry)) ≡ grown (take n (now (bytes .entry))) .answer ⌝ }
+    ensures { λ r. ⌜ WholeOf r n ⌝ }
+{
+    let count = n as usize;
+    let held = &bytes[..count];
+    if n == HEADER {
+        return or_refused(packet::judge_header(held), Reception::Waiting);
+    }
+    if count < packet::size(held) {
+        return Reception::Waiting;
+    }
+    or_refused(packet::judge_packet(held), Reception::Whole(n))
+}
+
+// The answer to a good verdict, or the refusal.
+fn or_refused(verdict: Judged, answer: Reception) -> Reception
+    ensures { λ r. ⌜ r ≡ orRefused verdict answer ⌝ }
 {
     let Judged::Refused(refusal) = verdict else {
-        return progress;
+        return answer;
     };
-    Progress::Refused(refusal)
+    Reception::Refused(refusal)
 }

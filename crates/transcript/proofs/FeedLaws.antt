@@ -18,8 +18,7 @@ use Rattle.wire.proofs.PacketLaws.{over-take}
 use Rattle.calls.specs.Calls.{onCall}
 use Rattle.packets.specs.Packets.{BoardState}
 use Rattle.board.specs.BoardKind.{byte, boardKind}
-use Rattle.packets.specs.View.{Result, result}
-use Rattle.board.specs.View.{stateOf, answerOf, gave}
+use Rattle.board.specs.View.{stateOf, answerOf, gave, Result, result}
 use Rattle.board.specs.declared.board.Answer.{Answer}
 use Rattle.board.specs.declared.board.Done.{Done}
 use Rattle.transcript.specs.Transcript.{lineOf, transcribedFrom, fed, Transcribed, Told}

@@ -7,8 +7,8 @@ use lib.Seq.{paste}
 use Rattle.wire.specs.Packet.{over}
 use Rattle.calls.specs.Board.{Answer, begun}
 use Rattle.packets.specs.Packets.{BoardState}
-use Rattle.packets.specs.View.{Result}
 use Rattle.transcript.specs.Transcript.{lineOf, afterSteps, Transcribed}
+use Rattle.board.specs.View.{Result}
 
 -- bytes written from a place on: the place behind them, and the buffer
 abbrev pub Put : List ℕ → ℕ → List ℕ → ℕ → List ℕ → Type 0

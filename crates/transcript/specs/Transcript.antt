@@ -12,7 +12,7 @@ use Rattle.calls.specs.Board.{Answer, waiting, silent, begun, more, ended, refu
 use Rattle.calls.specs.Calls.{onCall, onStep}
 use Rattle.packets.specs.Packets.{BoardState}
 use Rattle.board.specs.BoardKind.{byte, boardKind}
-use Rattle.packets.specs.View.{Result, result}
+use Rattle.board.specs.View.{Result, result}
 
 -- ---- a line
 

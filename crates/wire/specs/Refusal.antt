@@ -1,5 +1,7 @@
--- Refusals (docs/RULES.md, the table in 'Calls'): the number of each case.
+-- Refusals (docs/RULES.md, the table in 'Calls'): the number of each case, and which change nothing.
+use mathlib.Core.Bool.{Bool, _||_}
 use Prim.Native.Nat.{ℕ}
+use lib.Dec.{eqb, leb}
 use Rattle.wire.specs.declared.refusal.Refusal.{Refusal}
 
 abbrev pub numberOf : Refusal → ℕ
@@ -24,3 +26,7 @@ numberOf Refusal.ReplyLength = 32
 numberOf Refusal.ReplyNoReturn = 33
 numberOf Refusal.ReplyCheckCode = 34
 numberOf Refusal.ReplyMessage = 35
+
+-- of the refusals by a board, 1 and 9 to 13 change nothing at all (CA3)
+unfoldable pub changesNothing : ℕ → Bool
+changesNothing n = eqb n 1 || leb 9 n

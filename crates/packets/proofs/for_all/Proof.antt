@@ -1,6 +1,6 @@
 -- As for this board alone, with nothing sent.
 use borrow.Author.Needs.{needs}
-use Rattle.packets.proofs.DecisionLaws.{plan-ready, all-begun, all-silent}
+use Rattle.packets.proofs.DecisionLaws.{all-begun, all-silent}
 use Rattle.packets.proofs.for_all.Statement.{statement}
 use Rattle.packets.proofs.for_all.Tie as tie
 
@@ -13,34 +13,15 @@ enum-told c = search needs
 enum-told-2 : tie.Need-enum-told-2
 enum-told-2 c = search needs
 
-begin-requires : tie.Need-begin-requires
-begin-requires c κs = search needs
-
-same-length : tie.Need-same-length
-same-length c = search needs
+begins-requires : tie.Need-begins-requires
+begins-requires c κs = search needs
 
 returns : tie.Need-returns
 returns c = search all-begun
-
-commit-requires : tie.Need-commit-requires
-commit-requires c κs = search (needs, plan-ready)
-
-same-length-2 : tie.Need-same-length-2
-same-length-2 c = search needs
 
 returns-2 : tie.Need-returns-2
 returns-2 c = search all-silent
 
 pub for-all-spec : {M : Type 1} → statement M
 for-all-spec =
-    tie.close
-    (tie.spec
-    decide-requires
-    enum-told
-    enum-told-2
-    begin-requires
-    same-length
-    returns
-    commit-requires
-    same-length-2
-    returns-2)
+    tie.close (tie.spec decide-requires enum-told enum-told-2 begins-requires returns returns-2)

@@ -33,9 +33,6 @@ for-own-requires c κs = search needs
 same-length : tie.Need-same-length
 same-length c = search needs
 
-same-length-2 : tie.Need-same-length-2
-same-length-2 c = search needs
-
 returns : tie.Need-returns
 returns c = search packet-own
 
@@ -45,14 +42,14 @@ enum-told-2 c = search needs
 for-all-requires : tie.Need-for-all-requires
 for-all-requires c κs = search needs
 
-same-length-3 : tie.Need-same-length-3
-same-length-3 c = search needs
-
 returns-2 : tie.Need-returns-2
 returns-2 c = search packet-all
 
 enum-told-3 : tie.Need-enum-told-3
 enum-told-3 c = search needs
+
+empty-requires : tie.Need-empty-requires
+empty-requires c κs = search needs
 
 returns-3 : tie.Need-returns-3
 returns-3 c = search packet-another
@@ -68,11 +65,10 @@ on-packet-spec =
     enum-told
     for-own-requires
     same-length
-    same-length-2
     returns
     enum-told-2
     for-all-requires
-    same-length-3
     returns-2
     enum-told-3
+    empty-requires
     returns-3)

@@ -1,37 +1,31 @@
--- The counts so far and those of what is left are the counts of all, and what is held stays a proper beginning.
-use mathlib.Core.Bool.{true}
+-- The counts so far and those of what is left are the counts of all, and what is held stays a proper beginning that asks for so many bytes.
 use mathlib.Core.List.{List, []}
-use mathlib.Core.Path.{_≡_, refl}
 use Prim.Native.Nat.{ℕ, _+_, _-_, _<_}
 use native.Mathlib.Omega.{arith}
 use lib.ListN.{length, take, getD}
-use Rattle.receiver.specs.Receive.{accept, isProperBeginning}
-use Rattle.receiver.proofs.Laws.{accept-proper, byte-accepted}
-use Rattle.recording.specs.Inner.{Counts}
-use Rattle.recording.proofs.Laws.{Played, nothing-played, played-on, wholes-counted, refusals-counted}
+use Rattle.receiver.specs.Receive.{accept}
+use Rattle.receiver.proofs.Laws.{byte-accepted}
+use Rattle.recording.specs.Inner.{Asking, Counts}
+use Rattle.recording.proofs.Laws.{nothing-asks, Played, nothing-played, played-on, wholes-counted, refusals-counted}
 use Rattle.recording.proofs.recording_count.Statement.{statement}
 use Rattle.recording.proofs.recording_count.Tie as tie
 
--- what is held is a proper beginning, and the counts so far and those of what is left are the counts of all
-record Held (s held : List ℕ) (packets refused i : ℕ) : Type 0 where
-  proper : isProperBeginning held ≡ true
+record Held (s held : List ℕ) (asked packets refused i : ℕ) : Type 0 where
+  asking : Asking held asked
   played : Played s held packets refused i
 
-nothing-held : (s : List ℕ) → Held s [] 0 0 0
-unfolding isProperBeginning
-nothing-held s = record { proper = refl; played = nothing-played s }
+nothing-held : (s : List ℕ) → Held s [] 7 0 0 0
+nothing-held s = record { asking = nothing-asks; played = nothing-played s }
 
-module _ (s held : List ℕ) (packets refused i : ℕ) (h : Held s held packets refused i) where
-  tallied-on : i < length s → (g : List ℕ) (p r : ℕ) → Counts (accept held (getD s i 0)) packets refused g p r → Held s g p r (i + 1)
-  tallied-on n g p r c =
-      let accepted = byte-accepted held (getD s i 0) (h .proper) in
-      record {
-        proper = rw (c .holds) (accept-proper held (getD s i 0) (h .proper));
-        played = played-on s held packets refused i (h .played) n g p r (rw accepted c);
-      }
+module _ (s held : List ℕ) (asked packets refused i : ℕ) (h : Held s held asked packets refused i) where
+  tallied-on : i < length s → (g : List ℕ) (k p r : ℕ) → Asking g k → Counts (accept held (getD s i 0)) packets refused g p r
+      → Held s g k p r (i + 1)
+  tallied-on n g k p r asks c =
+      let accepted = byte-accepted held (getD s i 0) (h .asking .proper) in
+      record { asking = asks; played = played-on s held packets refused i (h .played) n g p r (rw accepted c) }
 
 abbrev Inv-loop : tie.InvT-loop
-Inv-loop recording refused held₀ tally₀ i₀ held tally i = Held recording (take (tally .len) held) (tally .packets) (tally .refusals) i
+Inv-loop recording refused held₀ tally₀ i₀ held tally i = Held recording (take (tally .len) held) (tally .asked) (tally .packets) (tally .refusals) i
 
 abbrev μ-loop : tie.MeasureT-loop
 μ-loop recording refused held₀ tally₀ i₀ held tally i = length recording - i

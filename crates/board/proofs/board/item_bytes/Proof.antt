@@ -1,16 +1,19 @@
--- The bytes stand first in the array, so as many as are counted are seen.
-use mathlib.Core.List.{List, [], _∷_, _++_, append-assoc}
-use mathlib.Core.Path.{_≡_, refl}
-use Prim.Native.Nat.{ℕ}
-use lib.ListN.{length, take}
-use lib.Seq.{paste, take-at, take-length}
+-- The bytes stand first in an array of zeros.
 use borrow.Author.Needs.{needs}
+use mathlib.Core.List.{List}
+use mathlib.Core.Path.{_≡_}
+use Prim.Native.Nat.{ℕ, _+_}
+use native.Mathlib.Omega.{arith}
+use lib.ListN.{length, replicate}
+use lib.Seq.{paste, take-length}
+use Rattle.store.specs.Contents.{padded}
+use Rattle.board.specs.Values.{itemValue}
 use Rattle.board.proofs.board.item_bytes.Statement.{statement}
 use Rattle.board.proofs.board.item_bytes.Tie as tie
 
--- the bytes stand first, and as many are seen
-seen : (a t : List ℕ) (r : List ℕ) → r ≡ paste a 0 t (length t) → take (length t) (r ++ (0x00 ∷ [])) ≡ t
-seen a t r e = rw (e, take-length, append-assoc) (take-at t _ (length t) refl)
+filled : (t r : List ℕ) → r ≡ paste (replicate 16 0) 0 t (length t) → record { bytes = r; count = length t } ≡ itemValue t
+unfolding padded
+filled t r e = let n : 0 + length t ≡ length t = omega arith in rw (e, take-length, n)
 
 slice-aggregate-put-bytes : tie.Need-slice-aggregate-put-bytes
 slice-aggregate-put-bytes c = search needs
@@ -22,7 +25,7 @@ cast-t8 : tie.Need-cast-t8
 cast-t8 c = search needs
 
 returns : tie.Need-returns
-returns c = (search seen, refl)
+returns c = search filled
 
 pub item-bytes-spec : {M : Type 1} → statement M
 item-bytes-spec = tie.close (tie.spec slice-aggregate-put-bytes put-bytes-requires cast-t8 returns)

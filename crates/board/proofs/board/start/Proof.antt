@@ -1,6 +1,6 @@
 -- What a start on the store comes to decides whether a board is given.
 use borrow.Author.Needs.{needs}
-use Rattle.board.proofs.CallLaws.{serial-few, model-few, refused-start, refused-board, fresh-start, fresh-board}
+use Rattle.board.proofs.CallLaws.{serial-few, model-few, refused-start, refused-value, ready-start, ready-value}
 use Rattle.board.proofs.board.start.Statement.{statement}
 use Rattle.board.proofs.board.start.Tie as tie
 
@@ -16,23 +16,17 @@ enum-known-refusal c = search needs
 refused-requires : tie.Need-refused-requires
 refused-requires c κs = search needs
 
-same-length : tie.Need-same-length
-same-length c = search needs
-
 returns : tie.Need-returns
-returns c = search (refused-start, refused-board)
+returns c = (search refused-start, search refused-value)
 
 enum-known-erase : tie.Need-enum-known-erase
 enum-known-erase c = search needs
 
-fresh-requires : tie.Need-fresh-requires
-fresh-requires c κs = (search serial-few, search model-few)
-
-same-length-2 : tie.Need-same-length-2
-same-length-2 c = search needs
+ready-requires : tie.Need-ready-requires
+ready-requires c κs = (search serial-few, search model-few)
 
 returns-2 : tie.Need-returns-2
-returns-2 c = search (fresh-start, fresh-board)
+returns-2 c = (search ready-start, search ready-value)
 
 pub start-spec : {M : Type 1} → statement M
 start-spec =
@@ -42,9 +36,7 @@ start-spec =
     start-state-requires
     enum-known-refusal
     refused-requires
-    same-length
     returns
     enum-known-erase
-    fresh-requires
-    same-length-2
+    ready-requires
     returns-2)

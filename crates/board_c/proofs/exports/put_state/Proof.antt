@@ -12,7 +12,7 @@ same-length : tie.Need-same-length
 same-length c = search needs
 
 returns : tie.Need-returns
-returns c = search (state-put, sized)
+returns c = (search needs, search (state-put, sized))
 
 pub put-state-spec : {M : Type 1} → statement M
 put-state-spec = tie.close (tie.spec put-board-requires same-length returns)

@@ -52,11 +52,11 @@ part-put-bytes-end c = search needs
 put-bytes-requires : tie.Need-put-bytes-requires
 put-bytes-requires c κs = search needs
 
-shared-slice-read-t20 : tie.Need-shared-slice-read-t20
-shared-slice-read-t20 c = search needs
+shared-slice-read-t22 : tie.Need-shared-slice-read-t22
+shared-slice-read-t22 c = search needs
 
-shared-slice-read-t23 : tie.Need-shared-slice-read-t23
-shared-slice-read-t23 c = search needs
+shared-slice-read-t22-2 : tie.Need-shared-slice-read-t22-2
+shared-slice-read-t22-2 c = search needs
 
 shared-slice-read-erase-in : tie.Need-shared-slice-read-erase-in
 shared-slice-read-erase-in c = search needs
@@ -89,8 +89,8 @@ board-in-spec =
     part-put-bytes-start
     part-put-bytes-end
     put-bytes-requires
-    shared-slice-read-t20
-    shared-slice-read-t23
+    shared-slice-read-t22
+    shared-slice-read-t22-2
     shared-slice-read-erase-in
     shared-slice-read-erase-in-2
     erase-in-requires

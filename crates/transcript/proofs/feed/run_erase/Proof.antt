@@ -7,8 +7,7 @@ use borrow.Author.Needs.{needs}
 use lib.ListN.{length}
 use Rattle.calls.specs.Calls.{onStep}
 use Rattle.board.specs.BoardKind.{boardKind}
-use Rattle.packets.specs.View.{Result, result}
-use Rattle.board.specs.View.{gave}
+use Rattle.board.specs.View.{gave, Result, result}
 use Rattle.transcript.specs.Transcript.{afterSteps}
 use Rattle.transcript.proofs.feed.run_erase.Statement.{statement}
 use Rattle.transcript.proofs.feed.run_erase.Tie as tie

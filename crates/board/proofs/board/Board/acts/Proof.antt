@@ -1,4 +1,4 @@
--- What the packet did decides the erase and the answer.
+-- What the packet did decides the answer; where it began an erase the board is made anew.
 use borrow.Author.Needs.{needs}
 use mathlib.Core.List.{List}
 use mathlib.Core.Path.{_≡_}
@@ -6,7 +6,7 @@ use Prim.Native.Nat.{ℕ, _≤_}
 use native.Mathlib.Omega.{arith}
 use lib.ListN.{length}
 use Rattle.wire.specs.Packet.{mostPacket}
-use Rattle.board.proofs.CallLaws.{packet-whole}
+use Rattle.board.proofs.CallLaws.{acted-begun, acted-other}
 use Rattle.board.proofs.board.Board.acts.Statement.{statement}
 use Rattle.board.proofs.board.Board.acts.Tie as tie
 
@@ -19,23 +19,26 @@ slice-aggregate-on-packet c = search needs
 on-packet-requires : tie.Need-on-packet-requires
 on-packet-requires c κs = search (needs, enough)
 
-erase-after-requires : tie.Need-erase-after-requires
-erase-after-requires c κs = search needs
-
 answer-after-requires : tie.Need-answer-after-requires
 answer-after-requires c κs = search needs
 
-left-requires : tie.Need-left-requires
-left-requires c κs = search needs
+enum-known-acted : tie.Need-enum-known-acted
+enum-known-acted c = search needs
 
 same-length : tie.Need-same-length
 same-length c = search needs
 
+returns : tie.Need-returns
+returns c = search acted-other
+
+anew-requires : tie.Need-anew-requires
+anew-requires c κs = search needs
+
 same-length-2 : tie.Need-same-length-2
 same-length-2 c = search needs
 
-returns : tie.Need-returns
-returns c = search packet-whole
+returns-2 : tie.Need-returns-2
+returns-2 c = search acted-begun
 
 pub acts-spec : {M : Type 1} → statement M
 acts-spec =
@@ -43,9 +46,10 @@ acts-spec =
     (tie.spec
     slice-aggregate-on-packet
     on-packet-requires
-    erase-after-requires
     answer-after-requires
-    left-requires
+    enum-known-acted
     same-length
+    returns
+    anew-requires
     same-length-2
-    returns)
+    returns-2)

@@ -1,6 +1,6 @@
 -- The entry check of this board's own soundness and erase.
 use borrow.Author.Needs.{needs}
-use Rattle.calls.specs.Calls.{entryCheckOf}
+use Rattle.board.proofs.CallLaws.{entry-told}
 use Rattle.board.proofs.board.Board.entry_check.Statement.{statement}
 use Rattle.board.proofs.board.Board.entry_check.Tie as tie
 
@@ -14,8 +14,7 @@ entry-check-requires : tie.Need-entry-check-requires
 entry-check-requires c κs = search needs
 
 returns : tie.Need-returns
-unfolding entryCheckOf
-returns c = cc
+returns c = search (needs, entry-told)
 
 pub entry-check-spec : {M : Type 1} → statement M
 entry-check-spec =

@@ -1,6 +1,6 @@
 -- Up to place 127 a byte is cleared, and past it the erase ends.
 use borrow.Author.Needs.{needs}
-use Rattle.board.proofs.CallLaws.{clears-whole, ends-whole}
+use Rattle.board.proofs.CallLaws.{clears-plans, ends-plans}
 use Rattle.board.proofs.board.Board.erases.Statement.{statement}
 use Rattle.board.proofs.board.Board.erases.Tie as tie
 
@@ -13,23 +13,17 @@ owed-requires c κs = search needs
 clears-requires : tie.Need-clears-requires
 clears-requires c κs = search needs
 
-same-length : tie.Need-same-length
-same-length c = search needs
-
 returns : tie.Need-returns
-returns c = search clears-whole
+returns c = search clears-plans
 
 ends-requires : tie.Need-ends-requires
 ends-requires c κs = search needs
 
-same-length-2 : tie.Need-same-length-2
-same-length-2 c = search needs
-
-same-length-3 : tie.Need-same-length-3
-same-length-3 c = search needs
+same-length : tie.Need-same-length
+same-length c = search needs
 
 returns-2 : tie.Need-returns-2
-returns-2 c = search ends-whole
+returns-2 c = search ends-plans
 
 pub erases-spec : {M : Type 1} → statement M
 erases-spec =
@@ -38,9 +32,7 @@ erases-spec =
     place-requires
     owed-requires
     clears-requires
-    same-length
     returns
     ends-requires
-    same-length-2
-    same-length-3
+    same-length
     returns-2)
