@@ -3,6 +3,7 @@ use mathlib.Core.Path.{_≡_, refl, ap, sym, _∙_}
 use mathlib.Core.Bool.{Bool, true, false, cond}
 use mathlib.Core.List.{List, [], _∷_}
 use Prim.Native.Nat.{ℕ, suc}
+use lib.ListN.{replicate}
 use native.Mathlib.Omega.{arith}
 use borrow.Author.Tests.{eq-eqb}
 use Rattle.calls.specs.Board as calls
@@ -13,6 +14,7 @@ use Rattle.calls.proofs.Kept.{unused-startable, rest-start}
 use Rattle.calls.proofs.Pending.{Pending, pending-start}
 use Rattle.packets.specs.Packets.{BoardState, BoardOutcome, isIdentity}
 use Rattle.packets.proofs.IdentityLaws.{named-told}
+use Rattle.store.specs.Contents.{padded}
 use Rattle.store.specs.Layout.{unusedStore}
 use Rattle.store.proofs.TagLaws.{padded-length}
 use Rattle.board.specs.BoardKind.{Call, byte, gap, boardKind}
@@ -141,3 +143,9 @@ module _ (s m : List ℕ) (c : Call) (lent : List ℕ) (a : onCall boardKind c (
   pub past-erased : (es : Events) → ends 0 es ≡ true → (before : List ℕ)
       → stateAfterAll (stateIn s .ident) s m (call c lent ∷ es) ≡ stateStarted (onStart boardKind (stateIn s .ident) unusedStore) before
   past-erased es e before = erased-fresh es e ∙ sym (unused-started (stateIn s .ident) before (accepted-pending (boardIn s) m c lent a .named))
+
+-- ---- a fresh state's bytes, written out
+
+pub fresh-written : stateBytes (freshBoard (record { id = 1; serial = 0x41 ∷ []; model = [] }) Erase.Idle) ≡ 0x01 ∷ 0x01 ∷ 0x41 ∷ replicate 108 0x00
+unfolding stateBytes padded
+fresh-written = refl
