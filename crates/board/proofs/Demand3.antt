@@ -16,7 +16,7 @@ use Rattle.calls.specs.Lists.{call, step, cut, from, run, Acceptance, identity,
 use Rattle.calls.proofs.Demand as kinds
 use Rattle.calls.proofs.Steps.{Called, refuses, does, called}
 use Rattle.calls.proofs.Kept.{unused-startable, rest-start}
-use Rattle.calls.proofs.Theorem.{erases}
+use Rattle.calls.proofs.Theorem.{accepts, erases}
 use Rattle.packets.specs.Packets.{BoardState, isIdentity}
 use Rattle.board.specs.BoardKind.{Call, byte, gap, lastAnswer, lastBuffer, owes, boardKind}
 use Rattle.board.specs.Demand3.{Events, unusedBytes, eraseReplyBytes, unusedTrace, expected, NoneSent, reaches, owed, Demand3}
@@ -97,6 +97,7 @@ pub demand3 : Demand3
 demand3 =
     let E = erases boardKind board-laws in
     record {
+      accepted-size = λ a. accepts board-laws a .fits .size;
       accepted-store = E .stored;
       accepted-buffer = E .untouched;
       traced = trace-is;

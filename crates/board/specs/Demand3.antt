@@ -97,6 +97,8 @@ owed a = eqb (getD (packetOf (a .given)) 2 0) (0x40 + a .state .ident .id)
     packetOf gap = []
 
 pub record Demand3 : Type 0 where
+  -- a board that accepts has a store of 128 bytes
+  pub accepted-size : (a : Acceptance boardKind) → length (a .store) ≡ 128
   -- the acceptance stores E7h in byte 0 and nothing else, and leaves the lent buffer alone
   pub accepted-store : (a : Acceptance boardKind) → after (left boardKind a) (a .store) ≡ set (a .store) 0 0xE7
   pub accepted-buffer : (a : Acceptance boardKind) → left boardKind a .buffer ≡ a .lent
