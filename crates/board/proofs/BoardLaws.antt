@@ -62,7 +62,7 @@ nothing-is (b ∷ held) e = let z = eqb-true (length (b ∷ held)) 0 e in absurd
 pub holds-others : {i : Identity} {held m : List ℕ} (other : List ℕ) → receive.isProperBeginning other ≡ true → Resting i held m → Resting i other m
 holds-others other h r = record { named = r .named; size = r .size; marked = r .marked; ranged = r .ranged; proper = h }
 
-stores-kept : {i : Identity} {held m : List ℕ} {es : List Entry} → Keeps m es → Resting i held m → Resting i [] (applied es m)
+pub stores-kept : {i : Identity} {held m : List ℕ} {es : List Entry} → Keeps m es → Resting i held m → Resting i [] (applied es m)
 unfolding mark
 stores-kept {i} {held} {m} {es} k r =
     record { named = r .named; size = applied-length es m ∙ r .size; marked = k .mark ∙ r .marked; ranged = k .ranged; proper = nothing-proper }

@@ -7,8 +7,10 @@ pub mod PacketFed
 pub mod Numbers
 pub mod EraseRequest
 pub mod Demand3
-pub mod Theorems
 pub mod StartLaws
+pub mod CheckLaws
+pub mod Demand1
+pub mod Theorems
 pub mod ValueLaws
 pub mod PastLaws
 pub mod CallLaws

@@ -7,7 +7,7 @@ use native.Mathlib.Omega.{arith}
 use borrow.Author.Tests.{ltb-true, ne-eqb, lt-leb}
 use Rattle.wire.specs.Refusal.{changesNothing}
 use Rattle.store.specs.Layout.{unusedStore}
-use Rattle.calls.specs.Board.{Identity, Answer, waiting, begun, refused, Started, after}
+use Rattle.calls.specs.Board.{Identity, Answer, waiting, begun, refused, Started}
 use Rattle.calls.specs.Calls.{isShort, refuse, atRest, erasing, clearStep, endStep, onCall, onStep, onStart}
 use Rattle.calls.specs.Lists.{Event, call, step, cut, isLast, ends, Acceptance, left}
 use Rattle.calls.proofs.Demand.{wiped}
@@ -167,10 +167,10 @@ unfolding valueAfter
 refused-call-value c b m lent n a k = go (call-refused c (stateOf b) m lent n a)
   where
     go : Refused (stateOf b) lent n (onCall boardKind c (stateOf b) m lent) → callLeaves c b (onCall boardKind c (stateOf b) m lent) ≡ b
-    go (unchanged e) = rw e (refusal-leaves c b n (stateOf b) lent k)
+    go (unchanged h e) = rw e (refusal-leaves c b n (stateOf b) lent k)
     go (emptied low high e) = absurd (changes n low high k)
 
 pub refused-step-value : (b : Board) (m lent : List ℕ) (n : ℕ) → onStep boardKind (stateOf b) m lent .answer ≡ refused n
     → valueAfter (stateOf b .ident) b m (step lent) ≡ b
 unfolding valueAfter refuse
-refused-step-value b m lent n a = rw (step-refused (stateOf b) m lent n a, erase-back (b .erase))
+refused-step-value b m lent n a = rw (step-refused (stateOf b) m lent n a .1, erase-back (b .erase))

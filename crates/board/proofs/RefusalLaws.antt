@@ -1,6 +1,6 @@
 -- What a refused call or step leaves: the receiver refuses with 1 to 7 and then holds nothing, a packet with 8, and every other refusal is by the checks.
 use mathlib.Core.Path.{_≡_, refl, ap, sym, _∙_}
-use mathlib.Core.Bool.{Bool, true, false, cond, not}
+use mathlib.Core.Bool.{Bool, true, false, cond, not, _&&_}
 use mathlib.Core.List.{List, [], _∷_, _++_}
 use mathlib.Core.Logic.{_⊎_, inl, inr}
 use Prim.Native.Nat.{ℕ, _≤_}
@@ -12,12 +12,12 @@ use Rattle.wire.specs.Judge as judge
 use Rattle.wire.proofs.Tests.{cond-by}
 use Rattle.messages.specs.Read.{requestIn}
 use Rattle.receiver.specs.Receive as receive
-use Rattle.calls.specs.Board.{Identity, waiting, refused, idle}
-use Rattle.calls.specs.Calls.{refuse, onCall, clearStep, endStep, eraseStep, onStep}
-use Rattle.calls.proofs.Steps.{Called, Stepped, refuses, does, clears, called, stepped, step-clears-or-ends}
+use Rattle.calls.specs.Board.{Identity, waiting, refused, Erase, idle, pending, isPending}
+use Rattle.calls.specs.Calls.{isShort, isSound, entryCheck, entryCheckOf, refuse, callOn, onCall, clearStep, endStep, eraseStep, stepOn, onStep}
+use Rattle.calls.proofs.Steps.{step-clears-or-ends}
 use Rattle.actions.specs.Act.{Effect, replies, begins, effect}
 use Rattle.packets.specs.Packets.{BoardState, BoardOutcome, answers, Addressee, own, all, another, addressee, toOwn, toAll, onPacketTo, onPacket}
-use Rattle.board.specs.BoardKind.{Call, byte, gap, onReceipt, lastAnswer, boardKind}
+use Rattle.board.specs.BoardKind.{Call, byte, gap, lends, onReceipt, lastAnswer, boardKind}
 use Rattle.board.specs.BoardKind as board
 use Rattle.board.proofs.BoardLaws.{nothing-is}
 
@@ -76,9 +76,9 @@ accept-declines held b =
 
 -- ---- the board's refusals
 
--- what a refused call leaves: all as it was, or, with 2 to 8, all but the bytes held, of which there are none
+-- what a refused call leaves: with 1 and 9 to 13 all as it was; with 2 to 8 all but the bytes held, of which there are none
 pub data Refused (s : BoardState) (lent : List ℕ) (n : ℕ) (o : BoardOutcome) : Type 0 where
-  unchanged : o ≡ refuse boardKind n s lent → Refused s lent n o
+  unchanged : (n ≡ 1) ⊎ (9 ≤ n) → o ≡ refuse boardKind n s lent → Refused s lent n o
   emptied : 2 ≤ n → n ≤ 8 → o ≡ answers (refused n) (s .ident) [] lent → Refused s lent n o
 
 module _ (s : BoardState) (m lent : List ℕ) (n : ℕ) (q : s .erase ≡ idle) where
@@ -100,7 +100,7 @@ module _ (s : BoardState) (m lent : List ℕ) (n : ℕ) (q : s .erase ≡ idle) 
   receipt-refused (receive.refused k) held (l, inl f) e =
       let z : k ≡ n = cc in
       let w : held ≡ s .held = l ∙ sym (f .1) in
-      unchanged (λ j. record { answer = refused (z j); state = record { ident = s .ident; held = w j; erase = sym q j }; stores = []; buffer = lent })
+      unchanged (inl (sym z ∙ f .0)) (λ j. record { answer = refused (z j); state = record { ident = s .ident; held = w j; erase = sym q j }; stores = []; buffer = lent })
   receipt-refused (receive.refused k) held (l, inr f) e =
       let z : k ≡ n = cc in
       emptied (omega arith) (omega arith) (λ j. answers (refused (z j)) (s .ident) (l j) lent)
@@ -111,16 +111,29 @@ module _ (s : BoardState) (m lent : List ℕ) (n : ℕ) (q : s .erase ≡ idle) 
   done-refused (byte b) e = receipt-refused _ _ (accept-declines (s .held) b) e
   done-refused gap e = let z : _≡_ {A = ℕ} 0 1 = cc in absurd (omega arith)
 
+-- a check refuses with 9 or a greater number, and changes nothing
+by-check : (s : BoardState) (lent : List ℕ) (k n : ℕ) → 9 ≤ k → refuse boardKind k s lent .answer ≡ refused n
+    → (9 ≤ n) × (refuse boardKind k s lent ≡ refuse boardKind n s lent)
+unfolding refuse
+by-check s lent k n h e = let z : k ≡ n = cc in (omega arith, ap (λ (k : ℕ). refuse boardKind k s lent) z)
+
+pub refused-by-check : {s : BoardState} {lent : List ℕ} {n : ℕ} {o : BoardOutcome} → (9 ≤ n) × (o ≡ refuse boardKind n s lent) → Refused s lent n o
+refused-by-check (h, e) = unchanged (inr h) e
+
 pub call-refused : (c : Call) (s : BoardState) (m lent : List ℕ) (n : ℕ) → onCall boardKind c s m lent .answer ≡ refused n
     → Refused s lent n (onCall boardKind c s m lent)
-unfolding refuse
-call-refused c s m lent n a = go (called boardKind c s m lent)
+unfolding onCall callOn entryCheckOf entryCheck
+call-refused c s m lent n = go (lends c && isShort lent) (isSound boardKind s m) (s .erase) refl
   where
-    go : Called boardKind c s m lent (onCall boardKind c s m lent) → Refused s lent n (onCall boardKind c s m lent)
-    go (refuses k e) = let z : k ≡ n = cc in unchanged (e ∙ ap (λ (k : ℕ). refuse boardKind k s lent) z)
-    go (does q h e) = rw e (done-refused s m lent n q c (rw e at a))
+    go : (short sound : Bool) (e : Erase Bool) → s .erase ≡ e
+        → callOn boardKind (entryCheck short sound (isPending e)) c s m lent .answer ≡ refused n
+        → Refused s lent n (callOn boardKind (entryCheck short sound (isPending e)) c s m lent)
+    go true sound e q a = refused-by-check (by-check s lent 10 n (omega arith) a)
+    go false false e q a = refused-by-check (by-check s lent 12 n (omega arith) a)
+    go false true (pending p owed) q a = refused-by-check (by-check s lent 9 n (omega arith) a)
+    go false true idle q a = done-refused s m lent n q c a
 
--- a step that is refused changes nothing
+-- a step
 last-not-refused : (i : Identity) (owed : Bool) (n : ℕ) → lastAnswer i owed ≡ refused n → ⊥
 last-not-refused i true n e = let z : _≡_ {A = ℕ} 0 1 = cc in omega arith
 last-not-refused i false n e = let z : _≡_ {A = ℕ} 0 1 = cc in omega arith
@@ -131,10 +144,14 @@ clear-not-refused p owed s lent n =
     step-clears-or-ends boardKind (λ o. o .answer ≡ refused n → ⊥) p owed s lent
     (λ t e. let z : _≡_ {A = ℕ} 0 1 = cc in omega arith) (λ t e. last-not-refused (s .ident) owed n e)
 
-pub step-refused : (s : BoardState) (m lent : List ℕ) (n : ℕ) → onStep boardKind s m lent .answer ≡ refused n → onStep boardKind s m lent ≡ refuse boardKind n s lent
-unfolding refuse
-step-refused s m lent n a = go (stepped boardKind s m lent)
+pub step-refused : (s : BoardState) (m lent : List ℕ) (n : ℕ) → onStep boardKind s m lent .answer ≡ refused n
+    → (9 ≤ n) × (onStep boardKind s m lent ≡ refuse boardKind n s lent)
+unfolding onStep stepOn entryCheckOf entryCheck
+step-refused s m lent n = go (isShort lent) (isSound boardKind s m) (s .erase)
   where
-    go : Stepped boardKind s m lent (onStep boardKind s m lent) → onStep boardKind s m lent ≡ refuse boardKind n s lent
-    go (refuses k e) = let z : k ≡ n = cc in e ∙ ap (λ (k : ℕ). refuse boardKind k s lent) z
-    go (clears p owed q h e) = absurd (clear-not-refused p owed s lent n (rw e at a))
+    go : (short sound : Bool) (e : Erase Bool) → stepOn boardKind (entryCheck short sound (isPending e)) s lent .answer ≡ refused n
+        → (9 ≤ n) × (stepOn boardKind (entryCheck short sound (isPending e)) s lent ≡ refuse boardKind n s lent)
+    go true sound e = by-check s lent 10 n (omega arith)
+    go false false e = by-check s lent 12 n (omega arith)
+    go false true idle = by-check s lent 13 n (omega arith)
+    go false true (pending p owed) = λ a. absurd (clear-not-refused _ _ s lent n a)

@@ -1,15 +1,12 @@
--- What holds of every call and step on this board, sound or not: soundness stays, a refusal stores and sends nothing, few bytes are stored,
--- and a reply's length is its packet's.
-use mathlib.Core.Path.{_≡_, refl, ap, _∙_, subst}
+-- What holds of every call and step on this board, sound or not: soundness stays, few bytes are stored, and a reply's length is its packet's.
+use mathlib.Core.Path.{_≡_, ap, _∙_, subst}
 use mathlib.Core.Bool.{Bool, true, false}
 use mathlib.Core.List.{List, []}
-use mathlib.Core.Logic.{_⊎_, ⊎-elim}
 use Prim.Native.Nat.{ℕ, _≤_}
-use native.Mathlib.Omega.{arith}
 use lib.ListN.{length}
 use Rattle.plan.specs.Plans.{storesOf}
 use Rattle.calls.specs.Board.{Answer, refused, reply, pending}
-use Rattle.calls.specs.Calls.{isShort, isSound, refuse, onCall, onStep}
+use Rattle.calls.specs.Calls.{isShort, isSound, onCall, onStep}
 use Rattle.calls.proofs.Laws.{Kept}
 use Rattle.calls.proofs.Kept.{call-keeps, step-keeps}
 use Rattle.calls.proofs.Steps.{pending-call-stores-none, pending-step-stores-one}
@@ -20,7 +17,7 @@ use Rattle.board.specs.Values.{callLeaves, stepLeaves}
 use Rattle.board.specs.declared.board.Board.{Board}
 use Rattle.board.specs.declared.board.Planned.{Planned}
 use Rattle.board.proofs.BoardLaws.{board-laws}
-use Rattle.board.proofs.RefusalLaws.{Refused, unchanged, emptied, call-refused, step-refused}
+use Rattle.board.proofs.Demand1.{refusal-keeps, nothing-stepped}
 use Rattle.board.proofs.Bounds.{Replied, Sends, call-bounded, step-bounded}
 
 -- ---- sound boards stay sound
@@ -30,40 +27,6 @@ call-keeps-sound = call-keeps board-laws
 
 pub step-keeps-sound : (s : BoardState) (m lent : List ℕ) → isSound boardKind s m ≡ true → Kept boardKind m (onStep boardKind s m lent)
 step-keeps-sound = step-keeps board-laws
-
--- ---- refusals
-
--- nothing stored, the lent buffer as it was
-pub record Untouched (lent : List ℕ) (o : BoardOutcome) : Type 0 where
-  pub stores : o .stores ≡ []
-  pub buffer : o .buffer ≡ lent
-
--- with 1 and with 9 to 13 the board too is as it was
-pub refusals-change-nothing : (c : Call) (s : BoardState) (m lent : List ℕ) (n : ℕ) → onCall boardKind c s m lent .answer ≡ refused n → (n ≡ 1) ⊎ (9 ≤ n)
-    → onCall boardKind c s m lent ≡ refuse boardKind n s lent
-refusals-change-nothing c s m lent n a h = go (call-refused c s m lent n a)
-  where
-    go : Refused s lent n (onCall boardKind c s m lent) → onCall boardKind c s m lent ≡ refuse boardKind n s lent
-    go (unchanged e) = e
-    go (emptied low high e) = absurd (⊎-elim (λ x. omega arith) (λ x. omega arith) h)
-
--- a step with every number
-pub step-refusals-change-nothing : (s : BoardState) (m lent : List ℕ) (n : ℕ) → onStep boardKind s m lent .answer ≡ refused n
-    → onStep boardKind s m lent ≡ refuse boardKind n s lent
-step-refusals-change-nothing = step-refused
-
--- a call with every number
-pub refusal-keeps : (c : Call) (s : BoardState) (m lent : List ℕ) (n : ℕ) → onCall boardKind c s m lent .answer ≡ refused n → Untouched lent (onCall boardKind c s m lent)
-unfolding refuse
-refusal-keeps c s m lent n a = go (call-refused c s m lent n a)
-  where
-    go : Refused s lent n (onCall boardKind c s m lent) → Untouched lent (onCall boardKind c s m lent)
-    go (unchanged e) = rw e (record { stores = refl; buffer = refl })
-    go (emptied low high e) = rw e (record { stores = refl; buffer = refl })
-
-pub step-refusal-keeps : (s : BoardState) (m lent : List ℕ) (n : ℕ) → onStep boardKind s m lent .answer ≡ refused n → Untouched lent (onStep boardKind s m lent)
-unfolding refuse
-step-refusal-keeps s m lent n a = rw (step-refused s m lent n a) (record { stores = refl; buffer = refl })
 
 -- ---- how much is stored
 
@@ -96,7 +59,7 @@ module _ (p : Planned) (b : Board) (m lent lent′ : List ℕ) where
     step-plan-one place owed long sound q = rw (planned-stores _ _ h) (pending-step-stores-one boardKind (stateOf b) m lent place owed long sound q)
 
     pub refused-step-plan-none : (n : ℕ) → onStep boardKind (stateOf b) m lent .answer ≡ refused n → storesOf (p .plan) ≡ []
-    refused-step-plan-none n e = planned-stores _ _ h ∙ step-refusal-keeps (stateOf b) m lent n e .stores
+    refused-step-plan-none n e = planned-stores _ _ h ∙ nothing-stepped (stateOf b) m lent n e .untouched .stores
 
 -- ---- a reply's length is not invented: it is that of a packet of L + 9 bytes at the start of the lent buffer
 

@@ -23,7 +23,7 @@ use Rattle.board.proofs.Answers.{allBut}
 use Rattle.board.proofs.board.Answer.{the-type}
 use Rattle.board.specs.declared.board.Board.{Board}
 use Rattle.board.specs.declared.board.Done.{Done}
-use Rattle.board.proofs.RefusalLaws.{Refused, unchanged, emptied, call-refused, step-refused}
+use Rattle.board.proofs.RefusalLaws.{Refused, unchanged, emptied, refused-by-check, call-refused, step-refused}
 use Rattle.board_c.specs.State.{boardIn, stateBytes, stateIn}
 use Rattle.board_c.specs.Exports.{refusalAs, lengthAs, keepsAll, Leaves, Answers}
 use Rattle.board_c.specs.Inner.{Places, Saves, AnswerTold}
@@ -71,7 +71,7 @@ between-changes n low high = rw (ne-eqb n 1 (λ e. omega arith), lt-leb 9 n (ome
 
 refused-kept : (s : BoardState) (lent : List ℕ) (n : ℕ) (o : BoardOutcome) → Refused s lent n o → keepsAll (calls.refused n) ≡ true → o .state ≡ s
 unfolding refuse
-refused-kept s lent n o (unchanged e) k = ap (λ (o : BoardOutcome). o .state) e
+refused-kept s lent n o (unchanged h e) k = ap (λ (o : BoardOutcome). o .state) e
 refused-kept s lent n o (emptied low high e) k = absurd (clash _ k (between-changes n low high))
 
 -- a call that keeps all leaves the state that it had
@@ -169,7 +169,7 @@ module _ (d : Done) (r refusal refusalAfter size sizeAfter : ℕ) (s after m mAf
         let o = onStep boardKind (stateIn s) m lent in
         whole (stepLeaves (boardIn s)) o
         (subst (λ (b : Board). Gives d m mAfter lentAfter (stepLeaves b) (onStep boardKind (stateOf b) m lent)) read given)
-        (kept-by (stateIn s) lent o (λ n e. unchanged (step-refused (stateIn s) m lent n e)))
+        (kept-by (stateIn s) lent o (λ n e. refused-by-check (step-refused (stateIn s) m lent n e)))
         (sized-by s lent (isShort lent) o (λ n. other-size-refused s n .stepped m lent))
 
 -- a gap has no buffer and no reply

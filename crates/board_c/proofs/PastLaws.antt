@@ -7,7 +7,7 @@ use lib.ListN.{replicate}
 use native.Mathlib.Omega.{arith}
 use borrow.Author.Tests.{eq-eqb}
 use Rattle.calls.specs.Board as calls
-use Rattle.calls.specs.Board.{Identity, begun, Started, board}
+use Rattle.calls.specs.Board.{Identity, begun, Started}
 use Rattle.calls.specs.Calls.{atRest, onCall, onStep, onStart}
 use Rattle.calls.specs.Lists.{Event, call, step, cut, isLast, ends}
 use Rattle.calls.proofs.Kept.{unused-startable, rest-start}
@@ -26,7 +26,7 @@ use Rattle.board.specs.declared.board.Board.{Board}
 use Rattle.board.specs.declared.board.Erase.{Erase}
 use Rattle.board.proofs.PastLaws.{pendingBoard, Next, continues, ended, next-of, accepted-fresh, accepted-pending}
 use Rattle.board.proofs.BoardLaws.{board-laws}
-use Rattle.board.proofs.RefusalLaws.{unchanged, step-refused}
+use Rattle.board.proofs.RefusalLaws.{refused-by-check, step-refused}
 use Rattle.board_c.specs.State.{boardIn, stateBytes, stateIn}
 use Rattle.board_c.specs.Exports.{keepsAll, stateLeft, startIn, stateStarted, stateAfter, stateAfterAll}
 use Rattle.board_c.proofs.StateLaws.{size-of, back}
@@ -83,7 +83,7 @@ module _ (i : Identity) (n : ℕ) (owed : Bool) (m : List ℕ) (h : Pending boar
       → stepLeaves (pendingBoard i n owed) (onStep boardKind (stateOf (pendingBoard i n owed)) m lent) ≡ pendingBoard i n owed
   step-kept lent k =
       let s = stateOf (pendingBoard i n owed) in
-      let same = kept-by s lent (onStep boardKind s m lent) (λ j e. unchanged (step-refused s m lent j e)) k in
+      let same = kept-by s lent (onStep boardKind s m lent) (λ j e. refused-by-check (step-refused s m lent j e)) k in
       ap (λ (x : BoardState). withErase (pendingBoard i n owed) (eraseFrom (x .erase))) same
 
   follows : (e : Event Call) → stateAfter i (stateBytes (pendingBoard i n owed)) m e ≡ stateBytes (valueAfter i (pendingBoard i n owed) m e)
