@@ -1,8 +1,9 @@
--- Demand 2, put together from requests, replies and Sets.
+-- Demand 2, put together from requests, replies, rows and refusals.
 use Rattle.exchange.specs.Demand2.{Demand2}
 use Rattle.exchange.proofs.Requests.{requests}
 use Rattle.exchange.proofs.Replies.{replies-read, erase-read}
-use Rattle.exchange.proofs.Sets.{accepted, moves, others}
+use Rattle.exchange.proofs.Rows.{rows}
+use Rattle.exchange.proofs.Refusals.{refusal-keeps}
 
 pub demand2 : Demand2
-demand2 = record { requests = requests; replies-read = replies-read; erase-read = erase-read; accepted = accepted; moves = moves; others = others }
+demand2 = record { requests = requests; replies-read = replies-read; erase-read = erase-read; rows = rows; refusal-keeps = refusal-keeps }

@@ -9,24 +9,26 @@ use borrow.Author.Tests.{le-ltb}
 use lib.ListN.{length, set}
 use Rattle.bitfield.specs.Field.{getField, putField, setBit, withBit, bit, bitOf}
 use Rattle.wire.specs.Digits.{valueOf, twoAt, fourAt}
-use Rattle.wire.specs.Packet.{zeroByte, xorFrom, packet, packetText, size, typeA, typeC, typeE}
+use Rattle.wire.specs.Packet.{zeroByte, over, xorFrom, packet, packetText, size, typeA, typeC, typeE}
 use Rattle.wire.specs.Judge.{isRequestType}
 use Rattle.wire.proofs.PacketLaws.{packet-length, text-packet}
 use Rattle.messages.specs.Message.{Request, Reply}
 use Rattle.messages.specs.Message.Request.{getParameter, setParameter, powerControl}
-use Rattle.messages.specs.Message.Reply.{null, getReply, setReply, powerReadReply}
+use Rattle.messages.specs.Message.Reply.{null, getReply, setReply, powerReadReply, powerControlReply}
 use Rattle.messages.specs.Text.{requestType, requestText, replyType, replyText, parameterText}
-use Rattle.messages.specs.Read.{beginsWith, isName, getIn, setIn, commandIn, requestIn}
+use Rattle.messages.specs.Read.{beginsWith, isName, getIn, setIn, powerControlIn, commandIn, requestIn}
 use Rattle.receiver.specs.Receive.{isProperBeginning}
 use Rattle.plan.specs.Stores.{Entry, entry, applied}
 use Rattle.calls.specs.Calls.{clearsAt, mark, same, firstBytes, isShort, isSoundAs, isSound, atRest, stepOn, onStep, entryCheck, entryCheckOf, endStep, eraseStep}
-use Rattle.calls.specs.Lists.{seen, run}
+use Rattle.calls.specs.Lists.{answered, seen, run}
+use Rattle.calls.specs.Lists as lists
+use Rattle.calls.specs.Board.{Answer, silent, begun, reply}
 use Rattle.store.specs.Fields.{fieldStores}
 use Rattle.store.specs.Layout.{fieldsInRange, unusedStore}
 use Rattle.store.specs.Settings.{settingAt, current}
 use Rattle.store.specs.Contents.{isOn}
-use Rattle.actions.specs.Act.{replies, getEffect, setEffect, powerReadEffect, effectOf, effect}
-use Rattle.packets.specs.Packets.{isIdentity, replyWith, replyFrom, addressee, toOwn, onPacketTo, onPacket, BoardOutcome}
+use Rattle.actions.specs.Act.{Effect, replies, begins, powerControlEffect, getEffect, setEffect, powerReadEffect, effectOf, effect}
+use Rattle.packets.specs.Packets.{isIdentity, replyWith, replyFrom, addressee, toOwn, toAll, onPacketTo, onPacket, BoardOutcome}
 use Rattle.board.specs.BoardKind.{eraseReply, boardKind}
 use Rattle.board.specs.Demand3.{unusedBytes}
 use Rattle.board.specs.ByteCalls.{byteCalls, waits, seenThen}
@@ -34,7 +36,7 @@ use Rattle.board.proofs.PacketFed.{packet-fed}
 use Rattle.station.specs.Encode.{sends, isInRange, addressIn, encodingTo, encodingOf}
 use Rattle.station.specs.declared.encode.Destination.{Destination}
 use Rattle.exchange.specs.Examples as examples
-use Rattle.exchange.specs.Examples.{one, resting, atLastPlace, Holds, AllHold, p1, p2, p2To8, p3, set80, p4, p5, p6, p7, unknown, p8, status, p9, p10}
+use Rattle.exchange.specs.Examples.{one, resting, atLastPlace, Seen, Holds, AllHold, p1, p1Reply, p2, p2To8, p3, set80, p4, p5, p6, p7, unknown, p8, status, p9, p10, p10Reply}
 
 -- ---- what the encoder writes
 
@@ -45,22 +47,51 @@ written dest r bytes e room h = rw (le-ltb room 64 h) e
 
 -- ---- what a board replies
 
--- a packet whose effect is a reply with its stores
-module _ (m : List ℕ) (kind : ℕ) (text : List ℕ) (r : Reply) (es : List Entry) (is : effect one m (requestIn kind text) ≡ replies r es) where
-  packet-replies : (lent : List ℕ) → length text ≤ 62 → onPacket one m (packet 0x41 zeroByte kind text) lent ≡ toOwn one (replies r es) lent
-  unfolding onPacket onPacketTo addressee packet
-  packet-replies lent most = rw (text-packet 0x41 zeroByte kind text most, is)
+-- what is seen of a packet, by what it leaves
+seen-of : (m : List ℕ) (dest kind : ℕ) (text p left : List ℕ) (a : Answer ℕ) (buffer : List ℕ → List ℕ) (o : List ℕ → BoardOutcome)
+    → isSound boardKind resting m ≡ true → isRequestType kind ≡ true → 2 ≤ length text → length text ≤ 62 → packet dest zeroByte kind text ≡ p
+    → ((lent : List ℕ) → onPacket one m (packet dest zeroByte kind text) lent ≡ o lent)
+    → ((lent : List ℕ) → seen boardKind (o lent) m ≡ answered a (buffer lent) left)
+    → Seen m p a buffer left
+unfolding run
+seen-of m dest kind text p left a buffer o sound request least most given does shows lent room =
+    let n = length text + 10 in
+    let l : length (packet dest zeroByte kind text) - 1 ≡ n = rw packet-length (omega arith) in
+    rw (← given, l)
+    (ap (run boardKind one resting m) (sym (append-nil (byteCalls lent 0 (packet dest zeroByte kind text))))
+    ∙ packet-fed resting m lent dest kind text [] sound refl refl room request least most
+    ∙ ap (λ (o : BoardOutcome). waits lent m 0 n ++ seenThen one m o []) (does (lent n))
+    ∙ ap (λ (x : lists.Seen ℕ). waits lent m 0 n ++ (x ∷ [])) (shows (lent n)))
 
-  replied : (p bytes left : List ℕ) → isSound boardKind resting m ≡ true → isRequestType kind ≡ true → 2 ≤ length text → length text ≤ 62
-      → packet 0x41 zeroByte kind text ≡ p → replyFrom one r ≡ bytes → applied es m ≡ left → Holds (examples.replies m p bytes left)
-  unfolding run seen toOwn
-  replied p bytes left sound request least most given sent stored lent room =
-      let n = length text + 10 in
-      let l : length (packet 0x41 zeroByte kind text) - 1 ≡ n = rw packet-length (omega arith) in
-      rw (← given, ← sent, ← stored, l)
-      (ap (run boardKind one resting m) (sym (append-nil (byteCalls lent 0 (packet 0x41 zeroByte kind text))))
-      ∙ packet-fed resting m lent 0x41 kind text [] sound refl refl room request least most
-      ∙ ap (λ (o : BoardOutcome). waits lent m 0 n ++ seenThen one m o []) (packet-replies (lent n) most))
+module _ (m : List ℕ) (kind : ℕ) (text : List ℕ) (x : Effect) (is : effect one m (requestIn kind text) ≡ x) (most : length text ≤ 62) where
+  to-own : (lent : List ℕ) → onPacket one m (packet 0x41 zeroByte kind text) lent ≡ toOwn one x lent
+  unfolding onPacket onPacketTo addressee packet
+  to-own lent = rw (text-packet 0x41 zeroByte kind text most, is)
+
+  to-all : (lent : List ℕ) → onPacket one m (packet 0x2A zeroByte kind text) lent ≡ toAll one x lent
+  unfolding onPacket onPacketTo addressee packet
+  to-all lent = rw (text-packet 0x2A zeroByte kind text most, is)
+
+-- a reply, and the same in silence
+module _ (m : List ℕ) (kind : ℕ) (text : List ℕ) (r : Reply) (es : List Entry) (is : effect one m (requestIn kind text) ≡ replies r es)
+    (p left : List ℕ) (sound : isSound boardKind resting m ≡ true) (request : isRequestType kind ≡ true) (least : 2 ≤ length text) (most : length text ≤ 62) where
+  replied : (bytes : List ℕ) → packet 0x41 zeroByte kind text ≡ p → replyFrom one r ≡ bytes → applied es m ≡ left → Holds (examples.replies m p bytes left)
+  unfolding seen toOwn
+  replied bytes given sent stored =
+      seen-of m 0x41 kind text p left (reply (length bytes)) (over bytes) (toOwn one (replies r es)) sound request least most given
+      (to-own m kind text (replies r es) is most) (λ lent. rw (← sent, ← stored))
+
+  acted : packet 0x2A zeroByte kind text ≡ p → applied es m ≡ left → Holds (examples.acts m p left)
+  unfolding seen toAll
+  acted given stored =
+      seen-of m 0x2A kind text p left silent (λ lent. lent) (toAll one (replies r es)) sound request least most given
+      (to-all m kind text (replies r es) is most) (λ lent. rw (← stored))
+
+begun-by : (m : List ℕ) (kind : ℕ) (text p left : List ℕ) → effect one m (requestIn kind text) ≡ begins → isSound boardKind resting m ≡ true
+    → isRequestType kind ≡ true → 2 ≤ length text → length text ≤ 62 → packet 0x41 zeroByte kind text ≡ p → set m 0 0xE7 ≡ left → Holds (examples.begins m p left)
+unfolding seen toOwn
+begun-by m kind text p left is sound request least most given stored =
+    seen-of m 0x41 kind text p left begun (λ lent. lent) (toOwn one begins) sound request least most given (to-own m kind text begins is most) (λ lent. rw (← stored))
 
 -- ---- the last step of an erase
 
@@ -81,21 +112,27 @@ a and b = (a, b)
 pub examples-hold : AllHold examples.examples
 unfolding AllHold requestType requestText packet xorFrom packetText size twoAt fourAt valueOf
     isSound isSoundAs isIdentity mark fieldsInRange unusedStore isProperBeginning getField bit bitOf
-    requestIn getIn setIn commandIn beginsWith isName bind effectOf getEffect setEffect powerReadEffect settingAt current isOn fieldStores putField setBit withBit
+    requestIn getIn setIn commandIn beginsWith isName bind effectOf getEffect setEffect powerReadEffect powerControlEffect powerControlIn settingAt current isOn fieldStores putField setBit withBit
     replyWith replyType replyText parameterText
 examples-hold =
     let fifty = set unusedBytes 1 0x64 in
     let eighty = set unusedBytes 1 0xA0 in
+    let hundred = set unusedBytes 1 0xC8 in
+    let standby = set unusedBytes 6 0x08 in
     written (Destination.Id 1) (setParameter 0x00 0x10 100) p1 refl
+    and replied unusedBytes typeE (packetText p1) (setReply 0 0x00 0x10 0 100 100) (entry 1 0xC8 ∷ []) refl p1 hundred refl refl (omega arith) (omega arith) p1Reply refl refl refl
     and written (Destination.Id 1) (getParameter 0x00 0x10) p2 refl
     and written (Destination.Id 8) (getParameter 0x00 0x10) p2To8 refl
-    and replied fifty typeC (packetText p2) (getReply 0 0x00 0x10 0 100 50) [] refl p2 p3 fifty refl refl (omega arith) (omega arith) refl refl refl
-    and replied unusedBytes typeE (packetText set80) (setReply 0 0x00 0x10 0 100 80) (entry 1 0xA0 ∷ []) refl set80 p4 eighty refl refl (omega arith) (omega arith) refl refl refl
+    and replied fifty typeC (packetText p2) (getReply 0 0x00 0x10 0 100 50) [] refl p2 fifty refl refl (omega arith) (omega arith) p3 refl refl refl
+    and replied unusedBytes typeE (packetText set80) (setReply 0 0x00 0x10 0 100 80) (entry 1 0xA0 ∷ []) refl set80 eighty refl refl (omega arith) (omega arith) p4 refl refl refl
     and written Destination.All (setParameter 0x00 0x10 100) p5 refl
+    and acted unusedBytes typeE (packetText p5) (setReply 0 0x00 0x10 0 100 100) (entry 1 0xC8 ∷ []) refl p5 hundred refl refl (omega arith) (omega arith) refl refl
     and written (Destination.Id 1) (setParameter 0xF0 0x01 1) p6 refl
+    and begun-by unusedBytes typeE (packetText p6) p6 (set unusedBytes 0 0xE7) refl refl refl (omega arith) (omega arith) refl refl
     and erased
-    and replied unusedBytes typeA (packetText unknown) null [] refl unknown p8 unusedBytes refl refl (omega arith) (omega arith) refl refl refl
-    and replied unusedBytes typeA (packetText status) (powerReadReply 0 1) [] refl status p9 unusedBytes refl refl (omega arith) (omega arith) refl refl refl
+    and replied unusedBytes typeA (packetText unknown) null [] refl unknown unusedBytes refl refl (omega arith) (omega arith) p8 refl refl refl
+    and replied unusedBytes typeA (packetText status) (powerReadReply 0 1) [] refl status unusedBytes refl refl (omega arith) (omega arith) p9 refl refl refl
     and written (Destination.Id 1) (powerControl 4) p10 refl
+    and replied unusedBytes typeA (packetText p10) (powerControlReply 0 4) (entry 6 0x08 ∷ []) refl p10 standby refl refl (omega arith) (omega arith) p10Reply refl refl refl
     and refl
     and tt

@@ -1,6 +1,11 @@
 pub mod Requests
 pub mod ReplyLaws
 pub mod Replies
+pub mod Refusals
+pub mod RowLaws
+pub mod KeptLaws
 pub mod Sets
+pub mod Contents
+pub mod Rows
 pub mod Demand2
 pub mod Examples

@@ -20,23 +20,25 @@ use Rattle.packets.specs.Packets.{BoardState, BoardOutcome, isIdentity, Address
 use Rattle.board.specs.BoardKind.{byte, onReceipt, eraseReply, lastAnswer, lastBuffer, boardKind}
 use Rattle.packets.proofs.IdentityLaws.{Named, named-told}
 use Rattle.board.proofs.BoardLaws.{Resting, resting, whole-is}
-use Rattle.exchange.specs.Demand2.{InBytes, IsRead, RepliesTo}
+use Rattle.exchange.specs.Rows.{InBytes}
+use Rattle.exchange.specs.Demand2.{IsRead, RepliesTo}
 use Rattle.exchange.proofs.ReplyLaws.{effect-sayable, reply-is-read}
 
--- what holds of the length that a reply tells and of the buffer
-abbrev Tells : (ℕ → List ℕ → Type 0) → Answer ℕ → List ℕ → Type 0
-Tells P (reply n) buffer = P n buffer
-Tells P waiting buffer = Unit {0}
-Tells P silent buffer = Unit {0}
-Tells P begun buffer = Unit {0}
-Tells P more buffer = Unit {0}
-Tells P ended buffer = Unit {0}
-Tells P (refused n) buffer = Unit {0}
+-- what holds of the length that a reply tells
+abbrev Tells : (ℕ → Type 0) → Answer ℕ → Type 0
+Tells P (reply n) = P n
+Tells P waiting = Unit {0}
+Tells P silent = Unit {0}
+Tells P begun = Unit {0}
+Tells P more = Unit {0}
+Tells P ended = Unit {0}
+Tells P (refused n) = Unit {0}
 
-abbrev Leaves : (ℕ → List ℕ → Type 0) → BoardOutcome → Type 0
-Leaves P o = Tells P (o .answer) (o .buffer)
+-- and of the outcome of the call
+abbrev Leaves : (ℕ → BoardOutcome → Type 0) → BoardOutcome → Type 0
+Leaves P o = Tells (λ n. P n o) (o .answer)
 
-refusal-leaves : (P : ℕ → List ℕ → Type 0) (n : ℕ) (s : BoardState) (lent : List ℕ) → Leaves P (refuse boardKind n s lent)
+refusal-leaves : (P : ℕ → BoardOutcome → Type 0) (n : ℕ) (s : BoardState) (lent : List ℕ) → Leaves P (refuse boardKind n s lent)
 unfolding refuse
 refusal-leaves P n s lent = tt
 
@@ -44,8 +46,8 @@ refusal-leaves P n s lent = tt
 
 module _ (s : BoardState) (m lent : List ℕ) (b : InBytes (s .ident) m) where
   -- the reply to the request in a packet
-  abbrev Replying : List ℕ → ℕ → List ℕ → Type 0
-  Replying p n buffer = RepliesTo (s .ident) m p n lent buffer
+  abbrev Replying : List ℕ → ℕ → BoardOutcome → Type 0
+  Replying p n o = RepliesTo (s .ident) m p n lent o
 
   module _ (r : Resting (s .ident) (s .held) m) where
     packet-replies : (p : List ℕ) (to : Addressee) (x : Effect) → effect (s .ident) m (requestIn (getD p 4 0) (packetText p)) ≡ x
@@ -54,7 +56,7 @@ module _ (s : BoardState) (m lent : List ℕ) (b : InBytes (s .ident) m) where
     packet-replies p own (replies w es) is =
         let n = named-told (s .ident) (r .named) in
         let sayable = effect-sayable (s .ident) m b n (r .ranged) (getD p 4 0) (packetText p) is in
-        rw is (record { said = w; stores = es; effected = is; intact = reply-is-read (s .ident) n w sayable lent })
+        rw is (record { said = w; effected = is; intact = reply-is-read (s .ident) n w sayable lent })
     packet-replies p own begins is = rw is tt
     packet-replies p all (replies w es) is = rw is tt
     packet-replies p all begins is = rw is tt
@@ -72,9 +74,9 @@ module _ (s : BoardState) (m lent : List ℕ) (b : InBytes (s .ident) m) where
     byte-replies x = receipt-replies (s .held ++ (x ∷ [])) _ _ (whole-is (s .held) x)
 
 pub replies-read : (b : ℕ) (s : BoardState) (m lent : List ℕ) (n : ℕ) → InBytes (s .ident) m → onCall boardKind (byte b) s m lent .answer ≡ reply n
-    → RepliesTo (s .ident) m (s .held ++ (b ∷ [])) n lent (onCall boardKind (byte b) s m lent .buffer)
+    → RepliesTo (s .ident) m (s .held ++ (b ∷ [])) n lent (onCall boardKind (byte b) s m lent)
 replies-read b s m lent n h e =
-    subst (λ (a : Answer ℕ). Tells (Replying s m lent h p) a (onCall boardKind (byte b) s m lent .buffer)) e (go (called boardKind (byte b) s m lent))
+    subst (Tells (λ n. Replying s m lent h p n (onCall boardKind (byte b) s m lent))) e (go (called boardKind (byte b) s m lent))
   where
     p : List ℕ
     p = s .held ++ (b ∷ [])
@@ -93,10 +95,11 @@ sound-named s m h =
     (both (isIdentity (s .ident) && eqb (length m) 128) (isSoundAs boardKind (s .erase) (s .held) m) h .0) .0)
 
 -- the reply of the erase
-abbrev Ending : ℕ → List ℕ → ℕ → List ℕ → Type 0
-Ending id lent n buffer = IsRead id n (setReply 0 0xF0 0x01 1 1 1) lent buffer
+abbrev Ending : ℕ → List ℕ → ℕ → BoardOutcome → Type 0
+Ending id lent n o = IsRead id n (setReply 0 0xF0 0x01 1 1 1) lent (o .buffer)
 
-last-replies : (i : Identity) (owed : Bool) (lent : List ℕ) → Named i → Tells (Ending (i .id) lent) (lastAnswer i owed) (lastBuffer i owed lent)
+last-replies : (i : Identity) (owed : Bool) (lent : List ℕ) → Named i
+    → Tells (λ n. IsRead (i .id) n (setReply 0 0xF0 0x01 1 1 1) lent (lastBuffer i owed lent)) (lastAnswer i owed)
 unfolding eraseReply
 last-replies i true lent n =
     reply-is-read i n (setReply 0 0xF0 0x01 1 1 1)
@@ -107,7 +110,7 @@ pub erase-read : (s : BoardState) (m lent : List ℕ) (n : ℕ) → onStep board
     → IsRead (s .ident .id) n (setReply 0 0xF0 0x01 1 1 1) lent (onStep boardKind s m lent .buffer)
 unfolding clearStep endStep
 erase-read s m lent n e =
-    subst (λ (a : Answer ℕ). Tells (Ending (s .ident .id) lent) a (onStep boardKind s m lent .buffer)) e (go (stepped boardKind s m lent))
+    subst (Tells (λ n. Ending (s .ident .id) lent n (onStep boardKind s m lent))) e (go (stepped boardKind s m lent))
   where
     go : Stepped boardKind s m lent (onStep boardKind s m lent) → Leaves (Ending (s .ident .id) lent) (onStep boardKind s m lent)
     go (refuses k q) = rw q (refusal-leaves (Ending (s .ident .id) lent) k s lent)

@@ -54,7 +54,8 @@ use Rattle.packets.proofs.IdentityLaws.{Named}
 use Rattle.packets.proofs.ReplyLaws.{item-few, reply-size}
 use Rattle.station.specs.Read.{isReplyType, isReplyHeader, isWholeLength, replyInMessage, replyVerdict, readPacket}
 use Rattle.station.specs.Read as station
-use Rattle.exchange.specs.Demand2.{InBytes, IsRead}
+use Rattle.exchange.specs.Rows.{InBytes}
+use Rattle.exchange.specs.Demand2.{IsRead}
 
 -- ---- what a store shows
 
@@ -95,15 +96,8 @@ abbrev Sayable : Effect → Type 0
 Sayable (replies r es) = IsReply r
 Sayable begins = Unit {0}
 
-module _ (i : Identity) (m : List ℕ) (b : InBytes i m) (n : Named i) (ranged : fieldsInRange m ≡ true) where
-  item-bytes : (x : Item) → Bytes (itemOf i m x)
-  unfolding tagOf formerTagOf
-  item-bytes Item.Serial = b .serial
-  item-bytes Item.Model = b .model
-  item-bytes Item.Tag = bytes-part (read m tagLength) tagPlace m (b .store)
-  item-bytes Item.FormerTag = bytes-part (read m formerLength) formerTagPlace m (b .store)
-
-  get-sayable : (page code : ℕ) → page < 256 → code < 256 → (q : Option Row) → settingAt page code ≡ q → IsReply (getListed m page code q)
+module _ (m : List ℕ) where
+  pub get-sayable : (page code : ℕ) → page < 256 → code < 256 → (q : Option Row) → settingAt page code ≡ q → IsReply (getListed m page code q)
   get-sayable page code p c none e =
       record { result = omega arith; page = p; code = c; operation = omega arith; largest = omega arith; value = omega arith }
   get-sayable page code p c (some r) e =
@@ -119,17 +113,25 @@ module _ (i : Identity) (m : List ℕ) (b : InBytes i m) (n : Named i) (ranged :
       (λ _. record { result = omega arith; page = p; code = c; operation = omega arith; largest = l; value = w })
       (λ _. record { result = omega arith; page = p; code = c; operation = omega arith; largest = l; value = w })
 
+module _ (i : Identity) (m : List ℕ) (b : InBytes i m) (n : Named i) (ranged : fieldsInRange m ≡ true) where
+  item-bytes : (x : Item) → Bytes (itemOf i m x)
+  unfolding tagOf formerTagOf
+  item-bytes Item.Serial = b .serial
+  item-bytes Item.Model = b .model
+  item-bytes Item.Tag = bytes-part (read m tagLength) tagPlace m (b .store)
+  item-bytes Item.FormerTag = bytes-part (read m formerLength) formerTagPlace m (b .store)
+
   request-sayable : (r : Request) → IsRequest r → Sayable (effectOf i m r)
   unfolding effectOf getEffect setEffect powerReadEffect powerControlEffect dateWriteEffect dateOf
   request-sayable (getParameter page code) h =
       cond-by IsReply (isErase page code) _ _
       (λ _. record { result = omega arith; page = h .0; code = h .1; operation = omega arith; largest = omega arith; value = omega arith })
-      (λ _. get-sayable page code (h .0) (h .1) (settingAt page code) refl)
+      (λ _. get-sayable m page code (h .0) (h .1) (settingAt page code) refl)
   request-sayable (setParameter page code v) h =
       cond-by Sayable (isErase page code) _ _
       (λ _. cond-by Sayable (eqb v 1) _ _ (λ _. tt)
       (λ _. record { result = omega arith; page = h .0; code = h .1; operation = omega arith; largest = omega arith; value = h .2 }))
-      (λ _. set-sayable page code v (h .0) (h .1) (h .2) (settingAt page code) refl)
+      (λ _. set-sayable m page code v (h .0) (h .1) (h .2) (settingAt page code) refl)
   request-sayable powerRead h = (omega arith, cond-by (λ (mode : ℕ). isPowerMode mode ≡ true) (isOn m) 1 4 (λ _. refl) (λ _. refl))
   request-sayable (powerControl mode) h =
       cond-by Sayable (eqb mode 1) _ _ (λ _. (omega arith, h))
@@ -192,7 +194,7 @@ module _ (i : Identity) (n : Named i) (kind : ℕ) (text : List ℕ) where
       rw (packet-limits zeroByte a kind text least most, eq-eqb (size sent) (length sent) (size-packet zeroByte a kind text most ∙ sym (packet-length zeroByte a kind text)))
 
 module _ (i : Identity) (n : Named i) (r : Reply) (h : IsReply r) where
-  reply-read : readPacket (replyFrom i r) ≡ station.reply (i .id) r
+  pub reply-read : readPacket (replyFrom i r) ≡ station.reply (i .id) r
   unfolding readPacket replyVerdict replyInMessage replyWith
   reply-read =
       let a = addressOf (i .id) in

@@ -17,15 +17,16 @@ use Rattle.messages.specs.Read.{requestIn}
 use Rattle.messages.proofs.RoundTrips.{request-back, request-type, request-length}
 use Rattle.calls.specs.Board.{Identity}
 use Rattle.calls.specs.Lists.{run}
-use Rattle.actions.specs.Act.{effectOf, effect}
+use Rattle.actions.specs.Act.{effect}
 use Rattle.board.specs.ByteCalls.{byteCalls, waits, seenThen}
-use Rattle.packets.specs.Packets.{BoardState, addressee, onPacketTo, onPacket}
+use Rattle.packets.specs.Packets.{BoardState, addressee, toOwn, toAll, onPacketTo, onPacket}
 use Rattle.board.specs.BoardKind.{boardKind}
 use Rattle.board.specs.Demand3.{Events}
 use Rattle.board.proofs.PacketFed.{packet-fed}
 use Rattle.station.specs.Encode.{Encoding, sends, refused, addressIn, encodingTo, encodingOf, encoding}
 use Rattle.station.specs.declared.encode.Destination.{Destination}
-use Rattle.exchange.specs.Demand2.{Addresses, done, Idle}
+use Rattle.exchange.specs.Rows.{Idle}
+use Rattle.exchange.specs.Demand2.{Addresses, done}
 
 -- ---- what the encoder sends
 
@@ -48,24 +49,34 @@ module _ (kind : ℕ) (text p : List ℕ) where
   sent room dest good =
       cond-by (λ (x : Encoding). x ≡ sends p → Sent (addressIn dest) kind text p) (ltb room 64) _ _ (λ _. refusal-sends-none 10) (λ _. sent-to (addressIn dest) good)
 
--- ---- what its packet does at a board
+-- ---- what a packet does at a board that it addresses
+
+module _ (i : Identity) (m lent : List ℕ) (kind : ℕ) (text : List ℕ) (most : length text ≤ 62) where
+  effect-back : (a : ℕ)
+      → effect i m (requestIn (getD (requestPacket a kind text) 4 0) (packetText (requestPacket a kind text))) ≡ effect i m (requestIn kind text)
+  unfolding packet
+  effect-back a = rw (text-packet a zeroByte kind text most)
+
+  pub own-done : onPacket i m (requestPacket (addressOf (i .id)) kind text) lent ≡ toOwn i (effect i m (requestIn kind text)) lent
+  unfolding onPacket onPacketTo addressee packet
+  own-done = rw (eq-eqb (addressOf (i .id)) (addressOf (i .id)) refl, effect-back (addressOf (i .id)))
+
+  pub all-done : onPacket i m (requestPacket allAddress kind text) lent ≡ toAll i (effect i m (requestIn kind text)) lent
+  unfolding onPacket onPacketTo addressee packet
+  all-done = rw (ne-eqb allAddress (addressOf (i .id)) (λ q. omega arith), effect-back allAddress)
 
 module _ (i : Identity) (m lent : List ℕ) (r : Request) (h : IsRequest r) where
   abbrev packetTo : ℕ → List ℕ
   packetTo a = requestPacket a (requestType r) (requestText r)
 
-  effect-back : (a : ℕ) → effect i m (requestIn (getD (packetTo a) 4 0) (packetText (packetTo a))) ≡ effectOf i m r
-  unfolding packet
-  effect-back a = rw (text-packet a zeroByte (requestType r) (requestText r) (request-length r h .1), request-back r h)
-
   packet-done : (dest : Destination) (a : ℕ) → Addresses dest i → addressIn dest ≡ some a → onPacket i m (packetTo a) lent ≡ done dest i m r lent
-  unfolding onPacket onPacketTo addressee packet
   packet-done (Destination.Id n) a to =
       cond-by (λ (x : Option ℕ). x ≡ some a → onPacket i m (packetTo a) lent ≡ done (Destination.Id n) i m r lent) (leb 1 n && leb n 8) _ _
-      (λ _ e. let is : a ≡ addressOf (i .id) = cc in rw (eq-eqb a (addressOf (i .id)) is, effect-back a)) (λ _ e. cc)
+      (λ _ e. let is : a ≡ addressOf (i .id) = cc in
+      rw (is, own-done i m lent (requestType r) (requestText r) (request-length r h .1), request-back r h)) (λ _ e. cc)
   packet-done Destination.All a to = λ e.
       let is : a ≡ allAddress = cc in
-      rw (is, ne-eqb allAddress (addressOf (i .id)) (λ q. omega arith), effect-back allAddress)
+      rw (is, all-done i m lent (requestType r) (requestText r) (request-length r h .1), request-back r h)
 
 -- ---- every request
 

@@ -1,2 +1,3 @@
+pub mod Rows
 pub mod Demand2
 pub mod Examples

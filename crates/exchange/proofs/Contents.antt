@@ -1,0 +1,181 @@
+-- Power, date, serial number, model and tags: what each reads, and what each stores, which the other reads get no part of.
+use mathlib.Core.Path.{_≡_, refl, sym, ap, _∙_, subst}
+use mathlib.Core.Bool.{Bool, true, false, cond, false≢true}
+use mathlib.Core.Logic.{_≢_, _⊎_, inl, inr, ⊎-elim}
+use mathlib.Core.List.{List, []}
+use Prim.Native.Nat.{ℕ, _≤_, _<_}
+use native.Mathlib.Omega.{arith}
+use lib.Dec.{leb, eqb}
+use borrow.Author.Tests.{leb-true, eqb-true, ne-eqb}
+use Rattle.wire.proofs.Tests.{both}
+use Rattle.messages.specs.Message.{IsItem, IsDate}
+use Rattle.messages.specs.Message.Request.{powerRead, powerControl, dateRead, dateWrite, itemRead, tagWrite}
+use Rattle.messages.specs.Message.Reply.{powerReadReply, powerControlReply, dateReadReply, dateWriteReply, itemReply, tagWriteReply}
+use Rattle.messages.specs.declared.message.Date.{Date}
+use Rattle.messages.specs.declared.message.Item.{Item}
+use Rattle.store.specs.Fields.{read, fieldStores}
+use Rattle.store.specs.Layout.{power, tagLength}
+use Rattle.store.specs.Contents.{isOn, dateOf, isStorable, isAccepted, withDate, dateStores, tagOf, formerTagOf, tagStores}
+use Rattle.store.proofs.StoreLaws.{in-range-one, field-applied}
+use Rattle.store.proofs.SettingLaws.{power-moves}
+use Rattle.store.proofs.DateLaws.{storable-fits, date-keeps-field, date-keeps-byte, accepted-shown, date-applied}
+use Rattle.store.proofs.TagLaws.{TagWritten, tag-written, tag-shown, former-shown}
+use Rattle.calls.specs.Board.{Identity}
+use Rattle.plan.specs.Stores.{applied}
+use Rattle.actions.specs.Act.{replies, says, powerReadEffect, powerControlEffect, dateWriteEffect, itemOf, effectOf}
+use Rattle.packets.specs.Packets.{holding}
+use Rattle.exchange.specs.Rows.{Idle, Ready, Asks, Shows, Changes, IsOn, IsStandby, isPowerRead}
+use Rattle.exchange.specs.Rows.{dateIn, takesDate, isDateRead, tagIn, formerTagIn, isTagRead}
+use Rattle.exchange.proofs.RowLaws.{rest, shows, ready-sayable, ready-shows}
+use Rattle.exchange.proofs.KeptLaws.{Elsewhere, Clear, field-elsewhere, changes}
+use Rattle.exchange.proofs.Sets.{before-power}
+
+-- ---- power
+
+power-shows : {i : Identity} {u : List ℕ} → Idle (holding i []) u → (on : Bool) → isOn u ≡ on → Shows i u powerRead (powerReadReply 0 (cond on 1 4))
+unfolding effectOf powerReadEffect
+power-shows {i} {u} idle true e = shows i u idle powerRead tt (rw e) (omega arith, refl)
+power-shows {i} {u} idle false e = shows i u idle powerRead tt (rw e) (omega arith, refl)
+
+power-clear : Clear isPowerRead 53 1
+power-clear =
+    record {
+      settings = λ r l _. inr (before-power r l);
+      power = λ n. absurd (false≢true (sym n));
+      date = λ _. inl (omega arith);
+      tags = λ _ _ _. omega arith;
+    }
+
+module _ (i : Identity) (m : List ℕ) (ready : Ready i m) where
+  pub power-on : IsOn m → Shows i m powerRead (powerReadReply 0 1)
+  unfolding isOn
+  power-on on = power-shows (ready .rests) true (rw on)
+
+  pub power-standby : IsStandby m → Shows i m powerRead (powerReadReply 0 4)
+  unfolding isOn
+  power-standby off = power-shows (ready .rests) false (rw off)
+
+  abbrev Moves : ℕ → ℕ → Type 0
+  Moves mode after = Changes i m (powerControl mode) (powerControlReply 0 mode) isPowerRead (λ m′. Shows i m′ powerRead (powerReadReply 0 after))
+
+  power-changes : (mode v : ℕ) → mode < 65536 → v ≤ 1 → effectOf i m (powerControl mode) ≡ replies (powerControlReply 0 mode) (fieldStores m power v)
+      → Moves mode (cond (eqb v 1) 1 4)
+  power-changes mode v h b is =
+      changes ready (powerControl mode) h is (field-applied m power v) (field-elsewhere m power v) power-clear
+      (λ idle. power-shows idle (eqb v 1) (power-moves m v (omega (arith, rest i m (ready .rests) .size)) b))
+
+  pub power-control : (mode : ℕ) → (mode ≡ 1) ⊎ (mode ≡ 4) → Moves mode mode
+  unfolding effectOf powerControlEffect
+  power-control mode o =
+      ⊎-elim (λ q. subst (λ (mode : ℕ). Moves mode mode) (sym q) (power-changes 1 1 (omega arith) (omega arith) refl))
+      (λ q. subst (λ (mode : ℕ). Moves mode mode) (sym q) (power-changes 4 0 (omega arith) (omega arith) refl)) o
+
+  pub power-refused : (mode : ℕ) → mode < 65536 → mode ≢ 1 → mode ≢ 4 → Asks i m (powerControl mode) (powerControlReply 1 mode) m
+  unfolding effectOf powerControlEffect
+  power-refused mode h n k = ready-shows i m ready (powerControl mode) h (rw (ne-eqb mode 1 n, ne-eqb mode 4 k))
+
+-- ---- date
+
+taken-is-date : (d : Date) → takesDate d ≡ true → IsDate d
+unfolding isStorable
+taken-is-date d h =
+    let b = both (isStorable d) (eqb (d .daylight) 0) h in
+    let f = storable-fits d (b .0) in
+    record {
+      year = omega arith;
+      month = omega arith;
+      day = omega arith;
+      weekday = omega arith;
+      hour = omega arith;
+      minute = omega arith;
+      daylight = omega (arith, eqb-true (d .daylight) 0 (b .1));
+    }
+
+date-elsewhere : (m : List ℕ) (d : Date) → Elsewhere 54 30 m (withDate m d)
+date-elsewhere m d =
+    record { fields = date-keeps-field m d; bytes = λ j a. date-keeps-byte m d j (⊎-elim (λ x. inr (omega arith)) (λ x. inl (omega arith)) a) }
+
+date-clear : Clear isDateRead 54 30
+date-clear =
+    record {
+      settings = λ r l _. inr (omega (arith, before-power r l));
+      power = λ _. inr (omega arith);
+      date = λ n. absurd (false≢true (sym n));
+      tags = λ _ _ _. omega arith;
+    }
+
+module _ (i : Identity) (m : List ℕ) (ready : Ready i m) where
+  pub date-read : Shows i m dateRead (dateReadReply (dateIn m))
+  unfolding effectOf dateOf
+  date-read = ready-shows i m ready dateRead tt refl
+
+  pub date-write : (d : Date) → takesDate d ≡ true
+      → Changes i m (dateWrite d) (dateWriteReply 0 d) isDateRead (λ m′. Shows i m′ dateRead (dateReadReply d))
+  unfolding effectOf dateWriteEffect isAccepted isStorable
+  date-write d h =
+      changes {es = dateStores m d} ready (dateWrite d) (taken-is-date d h) (rw h) (date-applied m d) (date-elsewhere m d) date-clear
+      (λ idle. shows i (withDate m d) idle dateRead tt
+      (ap (λ (d : Date). says (dateReadReply d)) (accepted-shown m d (omega (arith, rest i m (ready .rests) .size)) h)) (taken-is-date d h))
+
+  pub date-refused : (d : Date) → IsDate d → takesDate d ≡ false → Asks i m (dateWrite d) (dateWriteReply 1 d) m
+  unfolding effectOf dateWriteEffect isAccepted isStorable
+  date-refused d is h = ready-shows i m ready (dateWrite d) is (rw h)
+
+-- ---- serial number, model and tags
+
+item-shows : {i : Identity} {u : List ℕ} → Idle (holding i []) u → (x : Item) {bytes : List ℕ} → itemOf i u x ≡ bytes → IsItem bytes
+    → Shows i u (itemRead x) (itemReply x bytes)
+unfolding effectOf
+item-shows {i} {u} idle x q is = shows i u idle (itemRead x) tt (ap (λ (bytes : List ℕ). says (itemReply x bytes)) q) is
+
+tag-elsewhere : (m tag u : List ℕ) → TagWritten m tag u → Elsewhere 84 268 m u
+tag-elsewhere m tag u w =
+    record {
+      fields = λ at width a. w .fields at width (⊎-elim (λ x. inl (omega arith)) (λ x. inr x) a) (⊎-elim (λ x. inl x) (λ x. inr (omega arith)) a);
+      bytes = λ j a. w .outside j (⊎-elim (λ x. inr (omega arith)) (λ x. inl (omega arith)) a);
+    }
+
+tag-clear : Clear isTagRead 84 268
+tag-clear =
+    record {
+      settings = λ r l _. inr (omega (arith, before-power r l));
+      power = λ _. inr (omega arith);
+      date = λ _. inr (omega arith);
+      tags = λ x t n. absurd (false≢true (sym n ∙ t));
+    }
+
+module _ (i : Identity) (m : List ℕ) (ready : Ready i m) where
+  pub serial-read : Shows i m (itemRead Item.Serial) (itemReply Item.Serial (i .serial))
+  unfolding effectOf
+  serial-read = ready-shows i m ready (itemRead Item.Serial) tt refl
+
+  pub model-read : Shows i m (itemRead Item.Model) (itemReply Item.Model (i .model))
+  unfolding effectOf
+  model-read = ready-shows i m ready (itemRead Item.Model) tt refl
+
+  pub tag-read : Shows i m (itemRead Item.Tag) (itemReply Item.Tag (tagIn m))
+  unfolding effectOf tagOf
+  tag-read = ready-shows i m ready (itemRead Item.Tag) tt refl
+
+  pub former-read : Shows i m (itemRead Item.FormerTag) (itemReply Item.FormerTag (formerTagIn m))
+  unfolding effectOf formerTagOf
+  former-read = ready-shows i m ready (itemRead Item.FormerTag) tt refl
+
+  tag-is-item : IsItem (tagOf m)
+  unfolding effectOf
+  tag-is-item = ready-sayable i m ready (itemRead Item.Tag) {x = itemReply Item.Tag (tagOf m)} tt refl
+
+  tag-few : read m tagLength ≤ 16
+  tag-few =
+      let k = read m tagLength in
+      leb-true k 16 (both (leb 0 k) (leb k 16) (in-range-one m tagLength (rest i m (ready .rests) .ranged) refl) .1)
+
+  pub tag-write : (tag : List ℕ) → IsItem tag
+      → Changes i m (tagWrite tag) (tagWriteReply 0 tag) isTagRead
+      (λ m′. Shows i m′ (itemRead Item.Tag) (itemReply Item.Tag tag) × Shows i m′ (itemRead Item.FormerTag) (itemReply Item.FormerTag (tagIn m)))
+  unfolding effectOf tagOf
+  tag-write tag h =
+      let u = applied (tagStores m tag) m in
+      let w = tag-written m tag (rest i m (ready .rests) .size) (h .few) in
+      changes {u = u} ready (tagWrite tag) h refl refl (tag-elsewhere m tag u w) tag-clear
+      (λ idle. (item-shows idle Item.Tag (tag-shown m tag u (h .few) w) h, item-shows idle Item.FormerTag (former-shown m tag u tag-few w) tag-is-item))

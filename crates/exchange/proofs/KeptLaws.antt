@@ -1,0 +1,165 @@
+-- What the other reads get: two stores that differ in some bits alone show the same to every request that reads none of them.
+use mathlib.Core.Path.{_≡_, refl, sym, ap, ap₂, _∙_, subst}
+use mathlib.Core.Bool.{Bool, true, false, false≢true}
+use mathlib.Core.Logic.{inl, inr, ⊎-elim}
+use mathlib.Core.List.{List, [], _∷_, _++_, append-nil}
+use mathlib.Core.Option.{Option, none, some}
+use Prim.Native.Nat.{ℕ, zero, suc, _+_, _*_, _≤_}
+use native.Mathlib.Omega.{arith}
+use lib.Dec.{eqb}
+use lib.ListN.{length, getD, take, drop, length-drop}
+use lib.Seq.{ext-getD, getD-drop}
+use Rattle.bitfield.specs.Field.{getField, Apart}
+use Rattle.bitfield.proofs.Laws.{get-put-other, byte-put}
+use Rattle.wire.specs.Packet.{addressOf, requestPacket}
+use Rattle.plan.specs.Stores.{Entry, applied}
+use Rattle.messages.specs.Message.{Request, Reply, IsRequest}
+use Rattle.messages.specs.Message.Request.{getParameter, setParameter, powerRead, powerControl, dateRead, dateWrite, itemRead, tagWrite}
+use Rattle.messages.specs.Text.{requestType, requestText}
+use Rattle.messages.specs.declared.message.Item.{Item}
+use Rattle.messages.proofs.RoundTrips.{request-back, request-type, request-length}
+use Rattle.store.specs.Fields.{Field, write}
+use Rattle.store.specs.Settings.{Listed, settingAt, current}
+use Rattle.store.specs.Contents.{isOn, dateOf, tagOf, formerTagOf}
+use Rattle.store.specs.declared.settings.Row.{Row}
+use Rattle.store.proofs.StoreLaws.{SpareKept}
+use Rattle.store.proofs.SettingLaws.{setting-listed, setting-told}
+use Rattle.calls.specs.Board.{Identity, Answer}
+use Rattle.calls.specs.Lists.{seen, run}
+use Rattle.actions.specs.Act.{Effect, replies, getListed, getEffect, powerReadEffect, itemOf, effectOf, effect}
+use Rattle.packets.specs.Packets.{BoardOutcome, holding, toOwn}
+use Rattle.board.specs.BoardKind.{boardKind}
+use Rattle.board.specs.Demand3.{Trace, Events}
+use Rattle.board.specs.ByteCalls.{byteCalls, waits}
+use Rattle.exchange.specs.Rows.{Idle, Ready, isRead, heard, Asks, Kept, Changes, isTag}
+use Rattle.exchange.proofs.RowLaws.{rest, own-seen, request-keeps, ready-asks}
+
+-- ---- what is heard of a request is what is heard of its effect
+
+heard-waits : (lent : ℕ → List ℕ) (m : List ℕ) (k n : ℕ) (os : Trace) → heard (waits lent m k n ++ os) ≡ heard (waits lent [] k n) ++ heard os
+unfolding heard waits
+heard-waits lent m k zero os = refl
+heard-waits lent m k (suc n) os = rw (heard-waits lent m (suc k) n os)
+
+-- the answer and the buffer of an outcome, after those of n waits
+abbrev heardThen : (ℕ → List ℕ) → ℕ → BoardOutcome → List (Answer ℕ × List ℕ)
+heardThen lent n o = heard (waits lent [] 0 n) ++ ((o .answer, o .buffer) ∷ [])
+
+module _ (i : Identity) (r : Request) (h : IsRequest r) (lent : ℕ → List ℕ) (room : (k : ℕ) → 64 ≤ length (lent k)) where
+  abbrev bytes : Events
+  bytes = byteCalls lent 0 (requestPacket (addressOf (i .id)) (requestType r) (requestText r))
+
+  heard-effect : (m : List ℕ) → Idle (holding i []) m
+      → heard (run boardKind i (holding i []) m bytes)
+      ≡ heardThen lent (length (requestText r) + 10) (toOwn i (effectOf i m r) (lent (length (requestText r) + 10)))
+  unfolding heard run seen
+  heard-effect m idle =
+      let l = request-length r h in
+      ap (λ (es : Events). heard (run boardKind i (holding i []) m es)) (sym (append-nil bytes))
+      ∙ ap heard (own-seen i m idle (requestType r) (requestText r) (request-type r) (l .0) (l .1) lent room [] (ap (effect i m) (request-back r h)))
+      ∙ heard-waits lent m 0 (length (requestText r) + 10) _
+
+-- ---- two stores that differ in some bits alone
+
+pub record Elsewhere (at width : ℕ) (m u : List ℕ) : Type 0 where
+  pub fields : (at′ width′ : ℕ) → Apart at width at′ width′ → getField u at′ width′ ≡ getField m at′ width′
+  pub bytes : (j : ℕ) → Apart at width (8 * j) 8 → getD u j 0 ≡ getD m j 0
+
+pub field-elsewhere : (m : List ℕ) (f : Field) (v : ℕ) → Elsewhere (f .at) (f .width) m (write m f v)
+field-elsewhere m f v = record { fields = get-put-other m (f .at) (f .width) v; bytes = byte-put m (f .at) (f .width) v }
+
+-- what is read of a store and may not move lies elsewhere: settings, power, date, and both tags with their lengths
+pub record Clear (mayMove : Request → Bool) (at width : ℕ) : Type 0 where
+  pub settings : (r : Row) → Listed r → mayMove (getParameter (r .page) (r .code)) ≡ false → Apart at width (r .at) (r .width)
+  pub power : mayMove powerRead ≡ false → Apart at width 53 1
+  pub date : mayMove dateRead ≡ false → Apart at width 54 30
+  pub tags : (x : Item) → isTag x ≡ true → mayMove (itemRead x) ≡ false → at + width ≤ 84
+
+drop-same : (k : ℕ) (m u : List ℕ) → length u ≡ length m → ((j : ℕ) → k ≤ j → getD u j 0 ≡ getD m j 0) → drop k u ≡ drop k m
+drop-same k m u l f =
+    ext-getD 0 (drop k u) (drop k m) (simp (length-drop, l)) (λ j _. getD-drop k u j 0 ∙ f (k + j) (omega arith) ∙ sym (getD-drop k m j 0))
+
+module _ {at width : ℕ} {m u : List ℕ} (e : Elsewhere at width m u) where
+  power-same : Apart at width 53 1 → isOn u ≡ isOn m
+  unfolding isOn
+  power-same a = ap (λ (x : ℕ). eqb x 1) (e .fields 53 1 a)
+
+  date-same : Apart at width 54 30 → dateOf u ≡ dateOf m
+  unfolding dateOf
+  date-same a =
+      let part : (at′ width′ : ℕ) → 54 ≤ at′ → at′ + width′ ≤ 84 → getField u at′ width′ ≡ getField m at′ width′ =
+      λ at′ width′ l h. e .fields at′ width′ (⊎-elim (λ x. inl (omega arith)) (λ x. inr (omega arith)) a) in
+      λ j. record {
+        year = part 54 7 (omega arith) (omega arith) j;
+        month = part 61 4 (omega arith) (omega arith) j;
+        day = part 65 5 (omega arith) (omega arith) j;
+        weekday = part 70 3 (omega arith) (omega arith) j;
+        hour = part 73 5 (omega arith) (omega arith) j;
+        minute = part 78 6 (omega arith) (omega arith) j;
+        daylight = 0;
+      }
+
+  bytes-same : (n k : ℕ) → length u ≡ length m → at + width ≤ 84 → 84 ≤ n → 12 ≤ k
+      → take (getField u n 5) (drop k u) ≡ take (getField m n 5) (drop k m)
+  bytes-same n k l a h b =
+      ap₂ (λ (n : ℕ) (s : List ℕ). take n s) (e .fields n 5 (inl (omega arith))) (drop-same k m u l (λ j c. e .bytes j (inl (omega arith))))
+
+  item-same : (i : Identity) (x : Item) → length u ≡ length m → (isTag x ≡ true → at + width ≤ 84) → itemOf i u x ≡ itemOf i m x
+  unfolding tagOf formerTagOf
+  item-same i Item.Serial l a = refl
+  item-same i Item.Model l a = refl
+  item-same i Item.Tag l a = bytes-same 84 12 l (a refl) (omega arith) (omega arith)
+  item-same i Item.FormerTag l a = bytes-same 89 28 l (a refl) (omega arith) (omega arith)
+
+  get-same : (page code : ℕ) → ((r : Row) → settingAt page code ≡ some r → Apart at width (r .at) (r .width))
+      → getEffect u page code ≡ getEffect m page code
+  unfolding getEffect current
+  get-same page code a = rw (listed (settingAt page code) refl)
+    where
+      listed : (q : Option Row) → settingAt page code ≡ q → getListed u page code q ≡ getListed m page code q
+      listed none f = refl
+      listed (some r) f = rw (e .fields (r .at) (r .width) (a r f))
+
+  read-same : {mayMove : Request → Bool} (i : Identity) → length u ≡ length m → Clear mayMove at width
+      → (r : Request) → isRead r ≡ true → mayMove r ≡ false → effectOf i u r ≡ effectOf i m r
+  unfolding effectOf powerReadEffect
+  read-same {mayMove} i l c (getParameter page code) t n =
+      get-same page code
+      (λ r f. let at = setting-told page code r f in
+      c .settings r (setting-listed page code r f) (ap₂ (λ (page code : ℕ). mayMove (getParameter page code)) (sym (at .0)) (sym (at .1)) ∙ n))
+  read-same i l c (setParameter page code v) t n = absurd (false≢true t)
+  read-same i l c powerRead t n = rw (power-same (c .power n))
+  read-same i l c (powerControl mode) t n = absurd (false≢true t)
+  read-same i l c dateRead t n = rw (date-same (c .date n))
+  read-same i l c (dateWrite d) t n = absurd (false≢true t)
+  read-same i l c (itemRead x) t n = rw (item-same i x l (λ g. c .tags x g n))
+  read-same i l c (tagWrite tag) t n = absurd (false≢true t)
+
+-- ---- a request that stores
+
+kept : {i : Identity} {m u : List ℕ} {mayMove : Request → Bool} {at width : ℕ} → Idle (holding i []) m → Idle (holding i []) u
+    → SpareKept m u → Elsewhere at width m u → Clear mayMove at width → Kept mayMove i m u
+kept {i} {m} {u} before after spare e c =
+    record {
+      reads = λ r h t n lent room.
+          let k = length (requestText r) + 10 in
+          let l : length u ≡ length m = rest i u after .size ∙ sym (rest i m before .size) in
+          heard-effect i r h lent room u after
+          ∙ ap (λ (x : Effect). heardThen lent k (toOwn i x (lent k))) (read-same e i l c r t n)
+          ∙ sym (heard-effect i r h lent room m before);
+      spare-bits = spare .bits;
+      spare-bytes = spare .bytes;
+    }
+
+-- an effect whose stores change some bits alone, by what then holds of an idle board
+pub changes : {i : Identity} {m u : List ℕ} {x : Reply} {es : List Entry} {mayMove : Request → Bool} {Then : List ℕ → Type 0} {at width : ℕ}
+    → Ready i m → (r : Request) → IsRequest r → effectOf i m r ≡ replies x es → applied es m ≡ u
+    → Elsewhere at width m u → Clear mayMove at width → (Idle (holding i []) u → Then u) → Changes i m r x mayMove Then
+changes {i} {m} {u} {x} ready r h is q e c then =
+    let asked = subst (Asks i m r x) q (ready-asks i m ready r h is) in
+    record {
+      left = u;
+      asked = asked;
+      kept = kept (ready .rests) (asked .rests) (subst (SpareKept m) q (request-keeps i m (ready .rests) r h is .spare)) e c;
+      shown = then (asked .rests);
+    }

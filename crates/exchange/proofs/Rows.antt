@@ -1,0 +1,36 @@
+-- The rows of the message table, put together.
+use mathlib.Core.Path.{ap}
+use mathlib.Core.List.{List}
+use Prim.Native.Nat.{ℕ}
+use Rattle.calls.specs.Board.{Identity}
+use Rattle.actions.specs.Act.{effect}
+use Rattle.exchange.specs.Rows.{Ready, Rows}
+use Rattle.exchange.proofs.RowLaws.{ready-exchanged}
+use Rattle.exchange.proofs.Sets.{get, get-unlisted, get-erase, set, set-refused, set-unlisted, set-erase}
+use Rattle.exchange.proofs.Contents.{power-on, power-standby, power-control, power-refused, date-read, date-write, date-refused}
+use Rattle.exchange.proofs.Contents.{serial-read, model-read, tag-read, former-read, tag-write}
+
+pub rows : (i : Identity) (m : List ℕ) → Ready i m → Rows i m
+rows i m ready =
+    record {
+      get = get i m ready;
+      get-unlisted = get-unlisted i m ready;
+      get-erase = get-erase i m ready;
+      set = set i m ready;
+      set-refused = set-refused i m ready;
+      set-unlisted = set-unlisted i m ready;
+      set-erase = set-erase i m ready;
+      power-on = power-on i m ready;
+      power-standby = power-standby i m ready;
+      power-control = power-control i m ready;
+      power-refused = power-refused i m ready;
+      date-read = date-read i m ready;
+      date-write = date-write i m ready;
+      date-refused = date-refused i m ready;
+      serial-read = serial-read i m ready;
+      model-read = model-read i m ready;
+      tag-read = tag-read i m ready;
+      former-read = former-read i m ready;
+      tag-write = tag-write i m ready;
+      other = λ kind text request least most none. ready-exchanged i m ready kind text request least most (ap (effect i m) none);
+    }
