@@ -73,15 +73,15 @@ over-drop p o k h = drop-at p (drop (length p) o) k h ∙ rw h
 -- ---- an encoded event, by the tests
 
 module _ (k : ℕ) (lent : List ℕ) where
-  byte-event : k < 256 → eventOf k lent ≡ call (byte k) lent
+  pub byte-event : k < 256 → eventOf k lent ≡ call (byte k) lent
   unfolding eventOf
   byte-event h = rw (lt-ltb k 256 h)
 
-  gap-event : k ≡ 256 → eventOf k lent ≡ call gap lent
+  pub gap-event : k ≡ 256 → eventOf k lent ≡ call gap lent
   unfolding eventOf
   gap-event h = rw h
 
-  step-event : k ≡ 257 → eventOf k lent ≡ step lent
+  pub step-event : k ≡ 257 → eventOf k lent ≡ step lent
   unfolding eventOf
   step-event h = rw h
 
