@@ -1,17 +1,16 @@
--- An encoded list means its list, one event after the other; so what `play` leaves of it after an acceptance is what demand 3 expects.
+-- An encoded list means its list, one event after the other.
 use borrow.Author.Tests.{le-ltb}
 use mathlib.Core.List.{List, [], _∷_, _++_}
 use mathlib.Core.Path.{_≡_, refl, _∙_}
 use Prim.Native.Nat.{ℕ, zero, suc, _-_, _*_, _≤_, _<_}
 use native.Mathlib.Omega.{arith}
-use lib.ListN.{length, getD, set, length-append, length-set}
+use lib.ListN.{length, getD, length-append}
 use lib.Seq.{take-at, drop-at}
-use Rattle.calls.specs.Lists.{call, step, cut, run, Acceptance, identity, left, traceAfter}
-use Rattle.board.specs.BoardKind.{byte, gap, boardKind}
-use Rattle.board.specs.Demand3.{Events, expected, owed}
-use Rattle.board.proofs.Demand3.{demand3}
-use Rattle.play.specs.Play.{eventOf, partOf, eventsIn, Plays}
-use Rattle.play.specs.Encoding.{encodingOf, buffersOf, AreEvents, PlaysDemand3}
+use Rattle.calls.specs.Lists.{call, step, cut}
+use Rattle.board.specs.BoardKind.{byte, gap}
+use Rattle.board.specs.Demand3.{Events}
+use Rattle.play.specs.Play.{eventOf, partOf, eventsIn}
+use Rattle.play.specs.Encoding.{encodingOf, buffersOf, AreEvents, Encodes}
 use Rattle.play.proofs.Laws.{byte-event, gap-event, step-event}
 
 -- ---- 16 bits
@@ -68,26 +67,5 @@ means (step lent ∷ es) a room h =
     ∙ rw (step-event 257 lent refl, means es (a .1) (room - 130) (omega arith))
 means (cut ∷ es) a room h = cut-first room (encodingOf es) (buffersOf es) (omega arith) ∙ rw (means es (a .1) (room - 130) (omega arith))
 
--- ---- after an acceptance
-
-module _ (a : Acceptance boardKind) (m : List ℕ) (marked : m ≡ set (a .store) 0 0xE7) where
-  size : length m ≡ 128
-  size = rw marked (length-set (a .store) 0 0xE7 ∙ demand3 .accepted-size a)
-
-  traced : (es : Events) → run boardKind (identity boardKind a) (left boardKind a .state) m es ≡ expected (identity boardKind a) (owed a) 0 m es
-  unfolding traceAfter
-  traced es = rw marked (rw (demand3 .accepted-store a) at (demand3 .traced a es))
-
-  plays : (es : Events) → AreEvents es → (m′ lent′ log log′ : List ℕ) → 130 * length es ≤ length log
-      → Plays (run boardKind (identity boardKind a) (left boardKind a .state) m (eventsIn (length m) (length log) (encodingOf es) (buffersOf es)))
-      m m′ (buffersOf es) lent′ log log′
-      → Plays (expected (identity boardKind a) (owed a) 0 m es) m m′ (buffersOf es) lent′ log log′
-  plays es are m′ lent′ log log′ h p = rw (size, means es are (length log) h, traced es) at p
-
-pub plays-demand3 : PlaysDemand3
-plays-demand3 =
-    record {
-      words = words;
-      means = means;
-      plays = λ a es are m m′ lent′ log log′ marked h p. plays a m marked es are m′ lent′ log log′ h p;
-    }
+pub encodes : Encodes
+encodes = record { words = words; means = means }

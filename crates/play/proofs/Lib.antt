@@ -1,3 +1,4 @@
 pub mod Laws
 pub mod RunLaws
 pub mod EncodingLaws
+pub mod EraseLaws

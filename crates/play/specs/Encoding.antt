@@ -1,12 +1,12 @@
--- Every list of calls and power cuts as numbers that `play` takes, and what `play` leaves of it after an acceptance (docs/RULES.md, D3g).
+-- Every list of calls and power cuts as numbers that `play` takes (docs/RULES.md, D3g).
 use mathlib.Core.List.{List, [], _∷_, _++_}
 use mathlib.Core.Path.{_≡_}
 use Prim.Native.Nat.{ℕ, _*_, _≤_, _<_}
-use lib.ListN.{length, getD, set}
-use Rattle.calls.specs.Lists.{Event, call, step, cut, run, Acceptance, identity, left}
-use Rattle.board.specs.BoardKind.{Call, byte, gap, boardKind}
-use Rattle.board.specs.Demand3.{Events, expected, owed}
-use Rattle.play.specs.Play.{eventsIn, Plays}
+use lib.ListN.{length, getD}
+use Rattle.calls.specs.Lists.{Event, call, step, cut}
+use Rattle.board.specs.BoardKind.{Call, byte, gap}
+use Rattle.board.specs.Demand3.{Events}
+use Rattle.play.specs.Play.{eventsIn}
 
 -- ---- a list as numbers
 
@@ -43,17 +43,9 @@ unfoldable pub AreEvents : Events → Type 0
 AreEvents [] = Unit {0}
 AreEvents (e ∷ es) = IsEvent e × AreEvents es
 
--- ---- demand 3 and `play`
-
--- The last premise of `plays` is the contract of `play` for a board that accepted an erase, on the store that the acceptance left.
-pub record PlaysDemand3 : Type 0 where
-  -- 16 bits hold each number of an encoding
+-- what an encoding means
+pub record Encodes : Type 0 where
+  -- 16 bits hold each of its numbers
   pub words : (es : Events) → AreEvents es → (k : ℕ) → getD (encodingOf es) k 0 < 65536
-  -- with room for each event, two numbers and the 128 bytes, an encoding means its list
+  -- with room for each event, two numbers and the 128 bytes, it means its list
   pub means : (es : Events) → AreEvents es → (room : ℕ) → 130 * length es ≤ room → eventsIn 128 room (encodingOf es) (buffersOf es) ≡ es
-  -- and `play` of it leaves the store, the lent buffers and the log that demand 3 expects
-  pub plays : (a : Acceptance boardKind) (es : Events) → AreEvents es → (m m′ lent′ log log′ : List ℕ) → m ≡ set (a .store) 0 0xE7
-      → 130 * length es ≤ length log
-      → Plays (run boardKind (identity boardKind a) (left boardKind a .state) m (eventsIn (length m) (length log) (encodingOf es) (buffersOf es)))
-      m m′ (buffersOf es) lent′ log log′
-      → Plays (expected (identity boardKind a) (owed a) 0 m es) m m′ (buffersOf es) lent′ log log′

@@ -1,3 +1,4 @@
 pub mod Play
 pub mod Encoding
+pub mod Erase
 pub mod Inner

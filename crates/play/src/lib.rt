@@ -9,6 +9,7 @@ ghost use Rattle.board.specs.View.{stateOf, answerOf, givenIdentity};
 ghost use Rattle.board.specs.BoardKind.{boardKind};
 ghost use Rattle.calls.specs.Lists.{run};
 ghost use Rattle.play.specs.Play.{eventOf, eventsIn, partOf, numberIn, Plays};
+ghost use Rattle.play.specs.Erase.{ErasePlayed};
 ghost use Rattle.play.specs.Inner.{Turns, Restarts, Enters, LeavesRoom, PlaysFirst, PlaysRest};
 use board::board::Answer;
 use board::board::Board;
@@ -56,6 +57,32 @@ pub fn play(
         return;
     }
     play_rest(first, id, serial, model, store, events, lent, log)
+}
+
+// Gives a board a byte, and where it begins an erase plays events after it; whether it did. This is demand 3 in one call: what is left is what the demand
+// expects of the events.
+pub fn play_erase(
+    board: Board,
+    b: u8,
+    id: u8,
+    serial: &[u8],
+    model: &[u8],
+    store: &mut [u8],
+    reply: &mut [u8],
+    events: &[u16],
+    lent: &mut [u8],
+    log: &mut [usize],
+) -> bool
+    ensures { λ r. ⌜ ErasePlayed r (givenIdentity id (now (serial .entry)) (now (model .entry))) b (stateOf board) (now (store .entry)) (now (store .exit)) (now (reply .entry)) (now (reply .exit)) (now (events .entry)) (now (lent .entry)) (now (lent .exit)) (now (log .entry)) (now (log .exit)) ⌝ }
+{
+    let done = board.byte(store, b, reply);
+    let answer = done.answer;
+    let next = done.board;
+    let Answer::Begun = answer else {
+        return false;
+    };
+    play(next, id, serial, model, store, events, lent, log);
+    true
 }
 
 // Plays the first event, where there is one, and room for its entry.
