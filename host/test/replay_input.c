@@ -17,7 +17,10 @@ static void need(int good, const char *what) {
 }
 
 int main(int argc, char **argv) {
-    need(argc == 3, "two words");
+    if (argc != 3) {
+        fprintf(stderr, "replay_input TEXT PROGRAM\n");
+        return 2;
+    }
     int master = posix_openpt(O_RDWR | O_NOCTTY);
     need(master >= 0 && grantpt(master) == 0 && unlockpt(master) == 0, "pseudo-terminal");
     int slave = open(ptsname(master), O_RDWR | O_NOCTTY);

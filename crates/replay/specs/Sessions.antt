@@ -2,9 +2,11 @@
 -- are the system's, and nothing is said of them here.
 use mathlib.Core.Bool.{Bool, true, false, cond, _&&_}
 use mathlib.Core.Path.{_≡_}
-use Prim.Native.Nat.{ℕ, suc, _+_, _≤_, min}
+use Prim.Native.Nat.{ℕ, suc, _+_, min}
+use mathlib.Core.Logic.{_⊎_}
 use lib.Dec.{ltb}
 use lib.IntN.{ℤ, pos, negsuc}
+use Rattle.io.specs.Counts.{clamped}
 use Rattle.replay.specs.declared.Next.{Next}
 use Rattle.replay.specs.declared.Session.{Session}
 use Rattle.replay.specs.declared.Told.{Told}
@@ -38,8 +40,8 @@ countedOn at more = min (at + more) largest
 abbrev pub AreCounted : Told → ℕ → ℕ → Type 0
 AreCounted t before came = t .written ≡ true → t .at ≡ countedOn before came
 
--- a session after a read: the read is counted, the input has ended only if no byte came, and another read comes only after a byte
-pub record IsAfterRead (before after : Session) : Type 0 where
+-- A session after a read that gave such a number, into a buffer of such a size: the read is counted; and where the lines could be written, what comes
+-- next is what the number says, and every byte that came was counted.
+pub record IsAfterRead (before : Session) (got : ℤ) (size : ℕ) (after : Session) : Type 0 where
   pub read : after .reads ≡ suc (before .reads)
-  pub ended : after .next ≡ Next.InputEnded → after .at ≡ before .at
-  pub more : after .next ≡ Next.Read → countedOn (before .at) 1 ≤ after .at
+  pub next : (after .next ≡ Next.WriteFailed) ⊎ ((after .next ≡ nextAfter got true) × (after .at ≡ countedOn (before .at) (clamped got size)))

@@ -1,7 +1,7 @@
 // Bytes from standard input, given to an unused board of ID 1 with no serial number and no model; a line for each answer.
 ghost use mathlib.Core.Bool.{false};
 ghost use mathlib.Core.Path.{_≡_};
-ghost use Prim.Native.Nat.{_≤_, _<_};
+ghost use Prim.Native.Nat.{suc, _≤_, _<_};
 ghost use lib.ListN.{length};
 ghost use Rattle.replay.specs.Sessions.{largest, nextAfter, goesOn, countedOn, AreCounted, IsAfterRead};
 use board::board::Board;
@@ -93,15 +93,30 @@ impl Session {
     }
 }
 
-// Reads once, and gives the board what came: nothing at the end of the input, and where it can't be read.
+// Reads once.
 fn read_some(session: Session, store: &mut [u8], reply: &mut [u8], out: &mut [u8]) -> Session
     requires { ⌜ session .reads < largest ⌝ }
-    ensures { λ r. ⌜ IsAfterRead session r ⌝ }
+    ensures { λ r. ⌜ r .reads ≡ suc (session .reads) ⌝ }
 {
-    let reads = session.reads + 1;
     let mut buf = io::large_buffer();
     let got = libc::read(0, &mut buf);
-    let n = io::count(got, &buf);
+    take_in(session, got, &buf, store, reply, out)
+}
+
+// Gives the board what a read gave: nothing at the end of the input, and where it failed.
+fn take_in(
+    session: Session,
+    got: isize,
+    buf: &[u8],
+    store: &mut [u8],
+    reply: &mut [u8],
+    out: &mut [u8],
+) -> Session
+    requires { ⌜ session .reads < largest ⌝ }
+    ensures { λ r. ⌜ IsAfterRead session got (length (now (buf .entry))) r ⌝ }
+{
+    let reads = session.reads + 1;
+    let n = io::count(got, buf);
     let given = session.board;
     let told = give_all(given, session.at, store, &buf[..n], reply, out);
     let board = told.board;

@@ -11,12 +11,9 @@ use mir.Facts.{toZ-ofZ}
 use borrow.Author.Tests.{ltb-true, not-true, not-false}
 use Rattle.replay.specs.declared.Next.{Next}
 use Rattle.replay.specs.Sessions.{nextAfter}
+use Rattle.replay.proofs.SessionLaws.{unwritten}
 use Rattle.replay.proofs.next_after.Statement.{statement}
 use Rattle.replay.proofs.next_after.Tie as tie
-
-unwritten : (z : ℤ) (written : Bool) → written ≡ false → Next.WriteFailed ≡ nextAfter z written
-unwritten (pos n) written e = rw e
-unwritten (negsuc n) written e = rw e
 
 failed : (z : ℤ) → ltZ z (pos 0) ≡ true → Next.ReadFailed ≡ nextAfter z true
 failed (pos n) e = let none = ltb-true n 0 e in absurd (omega arith)
