@@ -16,8 +16,8 @@ use Rattle.wire.proofs.Tests.{cond-by}
 use Rattle.messages.specs.Read.{requestIn}
 use Rattle.receiver.specs.Receive as receive
 use Rattle.store.specs.Layout.{fieldsInRange, unusedStore}
-use Rattle.calls.specs.Board.{Identity, waiting, refused, Erase, idle, pending, isPending, board, startRefused}
-use Rattle.calls.specs.Calls.{mark, firstBytes, isShort, isSoundAs, isSound, entryCheck, entryCheckOf, refuse, callOn, onCall, stepOn, onStep, onStart, eraseStep, clearStep, endStep}
+use Rattle.calls.specs.Board.{Identity, waiting, refused, Erase, idle, pending, isPending, Started, board, startRefused}
+use Rattle.calls.specs.Calls.{mark, firstBytes, erasing, isShort, isSoundAs, isSound, entryCheck, entryCheckOf, refuse, callOn, onCall, stepOn, onStep, onStart, eraseStep, clearStep, endStep}
 use Rattle.calls.proofs.Steps.{step-clears-or-ends}
 use Rattle.board.proofs.PacketFed.{call-done}
 use Rattle.board.proofs.BoardLaws.{nothing-is, whole-is}
@@ -45,6 +45,7 @@ use Rattle.board.specs.Demand1.{
   gapChecks,
   stepChecks,
   startChecks,
+  startedState,
 }
 
 -- ---- soundness
@@ -278,6 +279,27 @@ start-checked i m = rw (← in-range m) (go _ _ (eqb (length m) 128) (eqb (getD 
     go s t true false true true false = refl
     go s t true false true false ranged = refl
     go s t true false false known ranged = refl
+
+pub start-given : (i : Identity) (m : List ℕ) → firstFailed (startChecks i m) ≡ none → onStart boardKind i m ≡ board (startedState i m) []
+unfolding onStart startOther startChecks firstFailed mark unusedStore isIdentity erasing
+start-given i m = rw (← in-range m) (go (eqb (length m) 128) (eqb (getD m 0 0) 0xE7) (eqb (getD m 0 0) 0x00) (isKnown i) (fieldsInRange m))
+  where
+    started : Erase Bool → Started BoardState
+    started e = board (record { ident = i; held = []; erase = e }) []
+
+    go : (sized erases rests known ranged : Bool) → firstFailed ((not (sized && (rests || erases)), 11) ∷ (not (known && (erases || ranged)), 12) ∷ []) ≡ none
+        → cond (sized && erases) (cond known (started (pending 1 false)) (startRefused 12))
+        (cond (sized && rests) (cond (known && ranged) (started idle) (startRefused 12)) (startRefused 11))
+        ≡ started (cond erases (pending 1 false) idle)
+    go false erases rests known ranged h = cc
+    go true true true true ranged h = refl
+    go true true true false ranged h = cc
+    go true true false true ranged h = refl
+    go true true false false ranged h = cc
+    go true false true true true h = refl
+    go true false true true false h = cc
+    go true false true false ranged h = cc
+    go true false false known ranged h = cc
 
 -- ---- what is held after a byte
 

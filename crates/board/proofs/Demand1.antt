@@ -22,7 +22,7 @@ use Rattle.board.specs.Demand1.{firstFailed, isWhole, isSoundBoard, byte
 use Rattle.board.proofs.BoardLaws.{board-laws}
 use Rattle.board.proofs.RefusalLaws.{Refused, unchanged, emptied, call-refused, step-refused}
 use Rattle.board.proofs.StartLaws.{no-id, unnamed-call-refused, unnamed-step-refused, SoundlyStarted, started-sound}
-use Rattle.board.proofs.CheckLaws.{sound-as, byte-checked, gap-checked, step-checked, start-checked, byte-goes-on}
+use Rattle.board.proofs.CheckLaws.{sound-as, byte-checked, gap-checked, step-checked, start-checked, start-given, byte-goes-on}
 
 -- ---- what a refusal leaves
 
@@ -123,6 +123,7 @@ demand1 =
       byte-held = byte-held;
       gap-empties = gap-empties;
       packet-empties = packet-empties;
+      start-given = start-given;
       no-board = λ n. refl;
       no-board-call = no-board-call;
       no-board-step = no-board-step;

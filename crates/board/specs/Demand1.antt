@@ -154,9 +154,13 @@ pub record Holds (s : BoardState) (bytes lent : List ℕ) (o : BoardOutcome) : T
   pub erase : o .state .erase ≡ idle
   pub untouched : Untouched lent o
 
--- the value that a refused start gives: each call on it is refused, with 10 for a short buffer and else with 12
+-- what a start gives: nothing held; with mark E7h an erase pending at place 1, its reply not owed
+abbrev pub startedState : Identity → List ℕ → BoardState
+startedState i m = record { ident = i; held = []; erase = cond (eqb (getD m 0 0) 0xE7) (pending 1 false) idle }
+
+-- the value that a refused start gives has ID 0: each call on it is refused, with 10 for a short buffer and else with 12
 abbrev pub noBoardState : BoardState
-noBoardState = stateOf (startLeaves (startRefused 11))
+noBoardState = record { ident = record { id = 0; serial = []; model = [] }; held = []; erase = idle }
 
 abbrev pub noBoardRefusal : Call → List ℕ → ℕ
 noBoardRefusal (byte b) lent = cond (ltb (length lent) 64) 10 12
@@ -189,7 +193,8 @@ pub record Demand1 : Type 0 where
   -- after a byte that completes a packet and is not refused nothing is held
   pub packet-empties : (b : ℕ) (s : BoardState) (m lent : List ℕ) → firstFailed (byteChecks b s m lent) ≡ none → isWhole (s .held ++ (b ∷ [])) ≡ true
       → onCall boardKind (byte b) s m lent .state .held ≡ []
-  -- a refused start gives no board
+  -- a start that is not refused gives a board of its identity and stores nothing; a refused one gives no board
+  pub start-given : (i : Identity) (m : List ℕ) → firstFailed (startChecks i m) ≡ none → onStart boardKind i m ≡ board (startedState i m) []
   pub no-board : (n : ℕ) → stateOf (startLeaves (startRefused n)) ≡ noBoardState
   pub no-board-call : (c : Call) (m lent : List ℕ) → (onCall boardKind c noBoardState m lent .answer ≡ refused (noBoardRefusal c lent))
       × Unchanged noBoardState lent (onCall boardKind c noBoardState m lent)
