@@ -3,3 +3,4 @@ pub mod RoundTrips
 pub mod Vectors
 pub mod SendLaws
 pub mod ParseLaws
+pub mod WrittenBack

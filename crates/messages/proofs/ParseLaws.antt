@@ -22,12 +22,12 @@ Found P none = Unit {0}
 Found P (some a) = P a
 
 module _ {A : Type 0} (P : A → Type 0) where
-  bind-found : {B : Type 0} (o : Option B) (f : B → Option A) → ((b : B) → o ≡ some b → Found P (f b)) → Found P (bind o f)
+  pub bind-found : {B : Type 0} (o : Option B) (f : B → Option A) → ((b : B) → o ≡ some b → Found P (f b)) → Found P (bind o f)
   unfolding bind
   bind-found none f h = tt
   bind-found (some b) f h = h b refl
 
-  map-found : {B : Type 0} (f : B → A) (o : Option B) → ((b : B) → o ≡ some b → P (f b)) → Found P (Option·map f o)
+  pub map-found : {B : Type 0} (f : B → A) (o : Option B) → ((b : B) → o ≡ some b → P (f b)) → Found P (Option·map f o)
   map-found f none h = tt
   map-found f (some b) h = h b refl
 
