@@ -1,4 +1,4 @@
--- What holds of every call and step on this board, sound or not: soundness stays, few bytes are stored, and a reply's length is its packet's.
+-- What holds of every call and step on this board, sound or not: few bytes are stored, and a reply's length is its packet's.
 use mathlib.Core.Path.{_≡_, ap, _∙_, subst}
 use mathlib.Core.Bool.{Bool, true, false}
 use mathlib.Core.List.{List, []}
@@ -7,8 +7,6 @@ use lib.ListN.{length}
 use Rattle.plan.specs.Plans.{storesOf}
 use Rattle.calls.specs.Board.{Answer, refused, reply, pending}
 use Rattle.calls.specs.Calls.{isShort, isSound, onCall, onStep}
-use Rattle.calls.proofs.Laws.{Kept}
-use Rattle.calls.proofs.Kept.{call-keeps, step-keeps}
 use Rattle.calls.proofs.Steps.{pending-call-stores-none, pending-step-stores-one}
 use Rattle.packets.specs.Packets.{BoardState, BoardOutcome}
 use Rattle.board.specs.BoardKind.{Call, boardKind}
@@ -16,17 +14,8 @@ use Rattle.board.specs.View.{stateOf, Plans}
 use Rattle.board.specs.Values.{callLeaves, stepLeaves}
 use Rattle.board.specs.declared.board.Board.{Board}
 use Rattle.board.specs.declared.board.Planned.{Planned}
-use Rattle.board.proofs.BoardLaws.{board-laws}
 use Rattle.board.proofs.Demand1.{refusal-keeps, nothing-stepped}
 use Rattle.board.proofs.Bounds.{Replied, Sends, call-bounded, step-bounded}
-
--- ---- sound boards stay sound
-
-pub call-keeps-sound : (c : Call) (s : BoardState) (m lent : List ℕ) → isSound boardKind s m ≡ true → Kept boardKind m (onCall boardKind c s m lent)
-call-keeps-sound = call-keeps board-laws
-
-pub step-keeps-sound : (s : BoardState) (m lent : List ℕ) → isSound boardKind s m ≡ true → Kept boardKind m (onStep boardKind s m lent)
-step-keeps-sound = step-keeps board-laws
 
 -- ---- how much is stored
 

@@ -55,7 +55,7 @@ storable-fits d e =
     }
 
 -- what each write of a date field keeps, a date write keeps
-date-by : (P : List ℕ → Type 0) (m : List ℕ) (d : Date)
+pub date-by : (P : List ℕ → Type 0) (m : List ℕ) (d : Date)
     → ((u : List ℕ) (f : Field) (v : ℕ) → isAmong f dateFields ≡ true → (isStorable d ≡ true → fits f v ≡ true) → P u → P (write u f v))
     → P m → P (withDate m d)
 unfolding withDate

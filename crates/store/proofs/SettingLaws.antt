@@ -1,7 +1,7 @@
--- Settings and power: an accepted value's kept form fits its field, so a Set moves what is shown to it and leaves the other settings.
+-- Settings and power: an accepted value's kept form fits its field, so a Set moves what is shown to it.
 use mathlib.Core.Path.{_≡_, refl, sym, ap, _∙_}
 use mathlib.Core.Bool.{Bool, true, false, not, cond, _||_, false≢true}
-use mathlib.Core.Logic.{_≢_, _⊎_, inl, inr, ⊎-elim}
+use mathlib.Core.Logic.{_⊎_, inl, inr, ⊎-elim}
 use mathlib.Core.List.{List, [], _∷_, List·Memᴰ, List·Memᴰ·head, List·Memᴰ·tail, List·Memᴰ·not-nil, List·Memᴰ·cases-cons}
 use mathlib.Core.Option.{Option, some, Option·none-ne-some}
 use Prim.Native.Nat.{ℕ, zero, suc, _+_, _*_, _^_, _≤_, _<_}
@@ -10,7 +10,6 @@ use lib.Dec.{leb, eqb}
 use lib.ListN.{length}
 use borrow.Author.Tests.{leb-true, le-leb, eqb-true, eq-eqb, not-true}
 use Rattle.bitfield.specs.Field.{Apart, Inside}
-use Rattle.bitfield.proofs.Laws.{get-put-other}
 use Rattle.wire.proofs.Tests.{cond-by, both}
 use Rattle.store.specs.Fields.{write, fits, fitsIn}
 use Rattle.store.specs.Layout.{power}
@@ -36,7 +35,7 @@ use Rattle.store.specs.Settings.{
 use Rattle.store.specs.Contents.{isOn}
 use Rattle.store.specs.Inner.{InStore}
 use Rattle.store.proofs.Tables.{each, pairwise, each-member, two-members}
-use Rattle.store.proofs.StoreLaws.{isField, field-in-store, isApart, apart, apart-sym, either-apart, fits-below, read-write}
+use Rattle.store.proofs.StoreLaws.{isField, field-in-store, isApart, either-apart, fits-below, read-write}
 
 -- ---- the rows
 
@@ -148,27 +147,9 @@ module _ (m : List ℕ) (r : Row) (v : ℕ) (l : Listed r) (inside : r .at + r .
   pub set-shows : current (write m (fieldOf r) (kept (r .values) v)) r ≡ settled (r .values) v
   set-shows = set-moves ∙ shown-kept (r .values) v h
 
-pub set-others : (m : List ℕ) (r t : Row) (k : ℕ) → Listed r → Listed t → r ≢ t → current (write m (fieldOf r) k) t ≡ current m t
-unfolding current
-set-others m r t k l n d =
-    ap (shown (t .values))
-    (get-put-other m (r .at) (r .width) k (t .at) (t .width) (⊎-elim (λ e. absurd (d e)) (λ a. a) (same-or-apart-row r t l n)))
-
 -- ---- power
 
 pub power-moves : (m : List ℕ) (v : ℕ) → 12 ≤ length m → v ≤ 1 → isOn (write m power v) ≡ eqb v 1
 unfolding isOn
 power-moves m v l h =
     ap (λ (x : ℕ). eqb x 1) (read-write m power v refl (omega arith) (rw (le-leb 0 v (omega arith), le-leb v 1 h)))
-
-setting-not-power : (r : Row) → Listed r → Apart (r .at) (r .width) 53 1
-setting-not-power r m = apart (r .at) (r .width) 53 1 (each-setting (λ r. isApart (r .at) (r .width) 53 1) r refl m)
-
-pub set-keeps-power : (m : List ℕ) (r : Row) (k : ℕ) → Listed r → isOn (write m (fieldOf r) k) ≡ isOn m
-unfolding isOn
-set-keeps-power m r k l = ap (λ (x : ℕ). eqb x 1) (get-put-other m (r .at) (r .width) k 53 1 (setting-not-power r l))
-
-pub power-keeps-settings : (m : List ℕ) (v : ℕ) (r : Row) → Listed r → current (write m power v) r ≡ current m r
-unfolding current
-power-keeps-settings m v r l =
-    ap (shown (r .values)) (get-put-other m 53 1 v (r .at) (r .width) (apart-sym (r .at) (r .width) 53 1 (setting-not-power r l)))
