@@ -1,11 +1,13 @@
 -- Power, date, serial number, model and tags: what each reads, and what each stores, which the other reads get no part of.
 use mathlib.Core.Path.{_≡_, refl, sym, ap, _∙_, subst}
-use mathlib.Core.Bool.{Bool, true, false, cond, false≢true}
+use mathlib.Core.Bool.{Bool, true, false, cond, _||_, false≢true}
 use mathlib.Core.Logic.{_≢_, _⊎_, inl, inr, ⊎-elim}
-use mathlib.Core.List.{List, []}
-use Prim.Native.Nat.{ℕ, _≤_, _<_}
+use mathlib.Core.List.{List, [], _++_}
+use Prim.Native.Nat.{ℕ, zero, suc, _-_, _≤_, _<_}
+use native.Mathlib.Nat.{sub-zero, zero-sub, suc-sub-suc}
 use native.Mathlib.Omega.{arith}
 use lib.Dec.{leb, eqb}
+use lib.ListN.{length, drop, replicate}
 use borrow.Author.Tests.{leb-true, eqb-true, ne-eqb}
 use Rattle.wire.proofs.Tests.{both}
 use Rattle.messages.specs.Message.{IsItem, IsDate}
@@ -15,7 +17,7 @@ use Rattle.messages.specs.declared.message.Date.{Date}
 use Rattle.messages.specs.declared.message.Item.{Item}
 use Rattle.store.specs.Fields.{read, fieldStores}
 use Rattle.store.specs.Layout.{power, tagLength}
-use Rattle.store.specs.Contents.{isOn, dateOf, isStorable, isAccepted, withDate, dateStores, tagOf, formerTagOf, tagStores}
+use Rattle.store.specs.Contents.{isOn, dateOf, isStorable, isAccepted, withDate, dateStores, tagOf, formerTagOf, padded, tagStores}
 use Rattle.store.proofs.StoreLaws.{in-range-one, field-applied}
 use Rattle.store.proofs.SettingLaws.{power-moves}
 use Rattle.store.proofs.DateLaws.{storable-fits, date-keeps-field, date-keeps-byte, accepted-shown, date-applied}
@@ -24,10 +26,11 @@ use Rattle.calls.specs.Board.{Identity}
 use Rattle.plan.specs.Stores.{applied}
 use Rattle.actions.specs.Act.{replies, says, powerReadEffect, powerControlEffect, dateWriteEffect, itemOf, effectOf}
 use Rattle.packets.specs.Packets.{holding}
-use Rattle.exchange.specs.Rows.{Idle, Ready, Asks, Shows, Changes, IsOn, IsStandby, isPowerRead}
-use Rattle.exchange.specs.Rows.{dateIn, takesDate, isDateRead, tagIn, formerTagIn, isTagRead}
+use Rattle.exchange.specs.Rows.{Idle, Ready, Asks, Shows, Changes, isWithin, IsOn, IsStandby, isPowerRead}
+use Rattle.exchange.specs.Rows.{dateIn, takesDate, isDateRead, tagIn, formerTagIn, isTagRead, mayChangeTags, TagsMoved}
 use Rattle.exchange.proofs.RowLaws.{rest, shows, ready-sayable, ready-shows}
-use Rattle.exchange.proofs.KeptLaws.{Elsewhere, Clear, field-elsewhere, changes}
+use Rattle.exchange.proofs.StoreBytes.{field-bytes, date-bytes, tag-bytes}
+use Rattle.exchange.proofs.KeptLaws.{Elsewhere, Clear, bit-apart, bit-same, elsewhere, field-elsewhere, changes}
 use Rattle.exchange.proofs.Sets.{before-power}
 
 -- ---- power
@@ -56,12 +59,14 @@ module _ (i : Identity) (m : List ℕ) (ready : Ready i m) where
   power-standby off = power-shows (ready .rests) false (rw off)
 
   abbrev Moves : ℕ → ℕ → Type 0
-  Moves mode after = Changes i m (powerControl mode) (powerControlReply 0 mode) isPowerRead (λ m′. Shows i m′ powerRead (powerReadReply 0 after))
+  Moves mode after = Changes i m (powerControl mode) (powerControlReply 0 mode) isPowerRead (isWithin 53 1)
+      (λ m′. Shows i m′ powerRead (powerReadReply 0 after))
 
   power-changes : (mode v : ℕ) → mode < 65536 → v ≤ 1 → effectOf i m (powerControl mode) ≡ replies (powerControlReply 0 mode) (fieldStores m power v)
       → Moves mode (cond (eqb v 1) 1 4)
   power-changes mode v h b is =
-      changes ready (powerControl mode) h is (field-applied m power v) (field-elsewhere m power v) power-clear
+      changes ready (powerControl mode) h is (field-applied m power v) (field-bytes m power v (ready .in-bytes .store))
+      (field-elsewhere m power v) power-clear
       (λ idle. power-shows idle (eqb v 1) (power-moves m v (omega (arith, rest i m (ready .rests) .size)) b))
 
   pub power-control : (mode : ℕ) → (mode ≡ 1) ⊎ (mode ≡ 4) → Moves mode mode
@@ -91,9 +96,10 @@ taken-is-date d h =
       daylight = omega (arith, eqb-true (d .daylight) 0 (b .1));
     }
 
-date-elsewhere : (m : List ℕ) (d : Date) → Elsewhere 54 30 m (withDate m d)
+date-elsewhere : (m : List ℕ) (d : Date) → Elsewhere (isWithin 54 30) 54 30 m (withDate m d)
 date-elsewhere m d =
-    record { fields = date-keeps-field m d; bytes = λ j a. date-keeps-byte m d j (⊎-elim (λ x. inr (omega arith)) (λ x. inl (omega arith)) a) }
+    elsewhere 54 30 m (withDate m d) (date-keeps-field m d)
+    (λ j a. date-keeps-byte m d j (⊎-elim (λ x. inr (omega arith)) (λ x. inl (omega arith)) a))
 
 date-clear : Clear isDateRead 54 30
 date-clear =
@@ -110,10 +116,11 @@ module _ (i : Identity) (m : List ℕ) (ready : Ready i m) where
   date-read = ready-shows i m ready dateRead tt refl
 
   pub date-write : (d : Date) → takesDate d ≡ true
-      → Changes i m (dateWrite d) (dateWriteReply 0 d) isDateRead (λ m′. Shows i m′ dateRead (dateReadReply d))
+      → Changes i m (dateWrite d) (dateWriteReply 0 d) isDateRead (isWithin 54 30) (λ m′. Shows i m′ dateRead (dateReadReply d))
   unfolding effectOf dateWriteEffect isAccepted isStorable
   date-write d h =
-      changes {es = dateStores m d} ready (dateWrite d) (taken-is-date d h) (rw h) (date-applied m d) (date-elsewhere m d) date-clear
+      changes {es = dateStores m d} ready (dateWrite d) (taken-is-date d h) (rw h) (date-applied m d)
+      (date-bytes m d (ready .in-bytes .store)) (date-elsewhere m d) date-clear
       (λ idle. shows i (withDate m d) idle dateRead tt
       (ap (λ (d : Date). says (dateReadReply d)) (accepted-shown m d (omega (arith, rest i m (ready .rests) .size)) h)) (taken-is-date d h))
 
@@ -128,12 +135,29 @@ item-shows : {i : Identity} {u : List ℕ} → Idle (holding i []) u → (x : It
 unfolding effectOf
 item-shows {i} {u} idle x q is = shows i u idle (itemRead x) tt (ap (λ (bytes : List ℕ). says (itemReply x bytes)) q) is
 
-tag-elsewhere : (m tag u : List ℕ) → TagWritten m tag u → Elsewhere 84 268 m u
+neither : (a b : Bool) → (a || b) ≡ false → (a ≡ false) × (b ≡ false)
+neither true b h = absurd (false≢true (sym h))
+neither false b h = (refl, h)
+
+tag-elsewhere : (m tag u : List ℕ) → TagWritten m tag u → Elsewhere mayChangeTags 84 268 m u
 tag-elsewhere m tag u w =
     record {
       fields = λ at width a. w .fields at width (⊎-elim (λ x. inl (omega arith)) (λ x. inr x) a) (⊎-elim (λ x. inl x) (λ x. inr (omega arith)) a);
       bytes = λ j a. w .outside j (⊎-elim (λ x. inr (omega arith)) (λ x. inl (omega arith)) a);
+      bits = λ k n.
+          let b = neither (isWithin 84 10 k) (isWithin 96 256 k) n in
+          bit-same m u k (w .fields k 1 (bit-apart 84 10 k (b .0)) (bit-apart 96 256 k (b .1)));
     }
+
+-- the 00h behind a tag are as many as it lacks of 16
+zeros-left : (n k : ℕ) → drop {A = ℕ} n (replicate k 0) ≡ replicate (k - n) 0
+zeros-left zero k = rw sub-zero
+zeros-left (suc n) zero = rw zero-sub
+zeros-left (suc n) (suc k) = rw suc-sub-suc (zeros-left n k)
+
+padded-is : (tag : List ℕ) → padded tag ≡ tag ++ replicate (16 - length tag) 0
+unfolding padded
+padded-is tag = ap (λ (s : List ℕ). tag ++ s) (zeros-left (length tag) 16)
 
 tag-clear : Clear isTagRead 84 268
 tag-clear =
@@ -170,12 +194,15 @@ module _ (i : Identity) (m : List ℕ) (ready : Ready i m) where
       let k = read m tagLength in
       leb-true k 16 (both (leb 0 k) (leb k 16) (in-range-one m tagLength (rest i m (ready .rests) .ranged) refl) .1)
 
-  pub tag-write : (tag : List ℕ) → IsItem tag
-      → Changes i m (tagWrite tag) (tagWriteReply 0 tag) isTagRead
-      (λ m′. Shows i m′ (itemRead Item.Tag) (itemReply Item.Tag tag) × Shows i m′ (itemRead Item.FormerTag) (itemReply Item.FormerTag (tagIn m)))
+  pub tag-write : (tag : List ℕ) → IsItem tag → Changes i m (tagWrite tag) (tagWriteReply 0 tag) isTagRead mayChangeTags (TagsMoved i m tag)
   unfolding effectOf tagOf
   tag-write tag h =
       let u = applied (tagStores m tag) m in
       let w = tag-written m tag (rest i m (ready .rests) .size) (h .few) in
-      changes {u = u} ready (tagWrite tag) h refl refl (tag-elsewhere m tag u w) tag-clear
-      (λ idle. (item-shows idle Item.Tag (tag-shown m tag u (h .few) w) h, item-shows idle Item.FormerTag (former-shown m tag u tag-few w) tag-is-item))
+      changes {u = u} ready (tagWrite tag) h refl refl (tag-bytes m tag (ready .in-bytes .store) (h .bytes)) (tag-elsewhere m tag u w) tag-clear
+      (λ idle. record {
+        tag-shown = item-shows idle Item.Tag (tag-shown m tag u (h .few) w) h;
+        former-shown = item-shows idle Item.FormerTag (former-shown m tag u tag-few w) tag-is-item;
+        tag-bytes = w .bytes ∙ padded-is tag;
+        former-bytes = w .former-bytes;
+      })

@@ -8,15 +8,17 @@ use native.Mathlib.Omega.{arith}
 use borrow.Author.Tests.{le-ltb}
 use lib.ListN.{length, set}
 use Rattle.bitfield.specs.Field.{getField, putField, setBit, withBit, bit, bitOf}
-use Rattle.wire.specs.Digits.{valueOf, twoAt, fourAt}
+use Rattle.wire.specs.Digits.{valueOf, twoAt, fourAt, octetsIn, unhex, hexOf}
 use Rattle.wire.specs.Packet.{zeroByte, over, xorFrom, packet, packetText, size, typeA, typeC, typeE}
 use Rattle.wire.specs.Judge.{isRequestType}
 use Rattle.wire.proofs.PacketLaws.{packet-length, text-packet}
 use Rattle.messages.specs.Message.{Request, Reply}
 use Rattle.messages.specs.Message.Request.{getParameter, setParameter, powerControl}
-use Rattle.messages.specs.Message.Reply.{null, getReply, setReply, powerReadReply, powerControlReply}
-use Rattle.messages.specs.Text.{requestType, requestText, replyType, replyText, parameterText}
-use Rattle.messages.specs.Read.{beginsWith, isName, getIn, setIn, powerControlIn, commandIn, requestIn}
+use Rattle.messages.specs.Message.Reply.{null, getReply, setReply, powerReadReply, powerControlReply, dateReadReply, dateWriteReply, itemReply, tagWriteReply}
+use Rattle.messages.specs.Text.{requestType, requestText, replyType, replyText, parameterText, dateText}
+use Rattle.messages.specs.declared.message.Date.{Date}
+use Rattle.messages.specs.declared.message.Item.{Item}
+use Rattle.messages.specs.Read.{beginsWith, isName, dateIn, getIn, setIn, powerControlIn, commandIn, requestIn}
 use Rattle.receiver.specs.Receive.{isProperBeginning}
 use Rattle.plan.specs.Stores.{Entry, entry, applied}
 use Rattle.calls.specs.Calls.{clearsAt, mark, same, firstBytes, isShort, isSoundAs, isSound, atRest, stepOn, onStep, entryCheck, entryCheckOf, endStep, eraseStep}
@@ -26,8 +28,8 @@ use Rattle.calls.specs.Board.{Answer, silent, begun, reply}
 use Rattle.store.specs.Fields.{fieldStores}
 use Rattle.store.specs.Layout.{fieldsInRange, unusedStore}
 use Rattle.store.specs.Settings.{settingAt, current}
-use Rattle.store.specs.Contents.{isOn}
-use Rattle.actions.specs.Act.{Effect, replies, begins, powerControlEffect, getEffect, setEffect, powerReadEffect, effectOf, effect}
+use Rattle.store.specs.Contents.{isOn, dateOf, isAccepted, isStorable, dateStores, withDate, tagOf, formerTagOf, tagStores, padded, withLengths}
+use Rattle.actions.specs.Act.{Effect, replies, begins, powerControlEffect, dateWriteEffect, getEffect, setEffect, powerReadEffect, effectOf, effect}
 use Rattle.packets.specs.Packets.{isIdentity, replyWith, replyFrom, addressee, toOwn, toAll, onPacketTo, onPacket, BoardOutcome}
 use Rattle.board.specs.BoardKind.{eraseReply, boardKind}
 use Rattle.board.specs.Demand3.{unusedBytes}
@@ -37,6 +39,9 @@ use Rattle.station.specs.Encode.{sends, isInRange, addressIn, encodingTo, encod
 use Rattle.station.specs.declared.encode.Destination.{Destination}
 use Rattle.exchange.specs.Examples as examples
 use Rattle.exchange.specs.Examples.{one, resting, atLastPlace, Seen, Holds, AllHold, p1, p1Reply, p2, p2To8, p3, set80, p4, p5, p6, p7, unknown, p8, status, p9, p10, p10Reply}
+use Rattle.exchange.specs.Examples.{standbyShown, askDate, dateShown, writeDate, dateWritten, askSerial, serialShown, askModel, modelShown}
+use Rattle.exchange.specs.Examples.{askTag, tagShown, askFormer, formerShown, writeTag, tagWritten, setInput, inputSet, getInput, inputShown}
+use Rattle.exchange.specs.Examples.{setTile, tileRefused, getUnlisted, unlistedShown, tagged, retagged, dated}
 
 -- ---- what the encoder writes
 
@@ -135,4 +140,35 @@ examples-hold =
     and written (Destination.Id 1) (powerControl 4) p10 refl
     and replied unusedBytes typeA (packetText p10) (powerControlReply 0 4) (entry 6 0x08 ∷ []) refl p10 standby refl refl (omega arith) (omega arith) p10Reply refl refl refl
     and refl
+    and tt
+
+-- Saturday, 1 January 2000, 00:00
+abbrev firstDay : Date
+firstDay = record { year = 0; month = 1; day = 1; weekday = 6; hour = 0; minute = 0; daylight = 0 }
+
+-- Thursday, 31 December 2099, 23:59
+abbrev lastDay : Date
+lastDay = record { year = 99; month = 12; day = 31; weekday = 4; hour = 23; minute = 59; daylight = 0 }
+
+pub row-examples-hold : AllHold examples.rowExamples
+unfolding AllHold requestType requestText packet xorFrom packetText size twoAt fourAt valueOf
+    isSound isSoundAs isIdentity mark fieldsInRange unusedStore isProperBeginning getField bit bitOf
+    requestIn getIn setIn commandIn beginsWith isName bind effectOf getEffect setEffect powerReadEffect powerControlEffect powerControlIn settingAt current isOn fieldStores putField setBit withBit
+    replyWith replyType replyText parameterText
+    dateOf dateWriteEffect isAccepted isStorable dateStores withDate tagOf formerTagOf tagStores padded withLengths dateIn octetsIn unhex hexOf dateText
+row-examples-hold =
+    let standby = set unusedBytes 6 0x08 in
+    let hdmi = set unusedBytes 1 0x8D in
+    replied standby typeA (packetText status) (powerReadReply 0 4) [] refl status standby refl refl (omega arith) (omega arith) standbyShown refl refl refl
+    and replied unusedBytes typeA (packetText askDate) (dateReadReply firstDay) [] refl askDate unusedBytes refl refl (omega arith) (omega arith) dateShown refl refl refl
+    and replied unusedBytes typeA (packetText writeDate) (dateWriteReply 0 lastDay) (dateStores unusedBytes lastDay) refl writeDate dated refl refl (omega arith) (omega arith) dateWritten refl refl refl
+    and replied unusedBytes typeA (packetText askSerial) (itemReply Item.Serial (0x53 ∷ [])) [] refl askSerial unusedBytes refl refl (omega arith) (omega arith) serialShown refl refl refl
+    and replied unusedBytes typeA (packetText askModel) (itemReply Item.Model (0x4D ∷ 0x32 ∷ [])) [] refl askModel unusedBytes refl refl (omega arith) (omega arith) modelShown refl refl refl
+    and replied tagged typeA (packetText askTag) (itemReply Item.Tag (0x41 ∷ 0x42 ∷ [])) [] refl askTag tagged refl refl (omega arith) (omega arith) tagShown refl refl refl
+    and replied tagged typeA (packetText askFormer) (itemReply Item.FormerTag (0x43 ∷ [])) [] refl askFormer tagged refl refl (omega arith) (omega arith) formerShown refl refl refl
+    and replied tagged typeA (packetText writeTag) (tagWriteReply 0 (0x44 ∷ [])) (tagStores tagged (0x44 ∷ [])) refl writeTag retagged refl refl (omega arith) (omega arith) tagWritten refl refl refl
+    and replied unusedBytes typeE (packetText setInput) (setReply 0 0x00 0x60 0 17 4) (entry 1 0x8D ∷ entry 2 0x3C ∷ []) refl setInput hdmi refl refl (omega arith) (omega arith) inputSet refl refl refl
+    and replied hdmi typeC (packetText getInput) (getReply 0 0x00 0x60 0 17 17) [] refl getInput hdmi refl refl (omega arith) (omega arith) inputShown refl refl refl
+    and replied unusedBytes typeE (packetText setTile) (setReply 1 0x10 0x4A 0 2 3) [] refl setTile unusedBytes refl refl (omega arith) (omega arith) tileRefused refl refl refl
+    and replied unusedBytes typeC (packetText getUnlisted) (getReply 1 0x00 0x11 0 0 0) [] refl getUnlisted unusedBytes refl refl (omega arith) (omega arith) unlistedShown refl refl refl
     and tt

@@ -1,16 +1,19 @@
 -- What the other reads get: two stores that differ in some bits alone show the same to every request that reads none of them.
 use mathlib.Core.Path.{_≡_, refl, sym, ap, ap₂, _∙_, subst}
-use mathlib.Core.Bool.{Bool, true, false, false≢true}
+use mathlib.Core.Bool.{Bool, true, false, _&&_, false≢true}
 use mathlib.Core.Logic.{inl, inr, ⊎-elim}
 use mathlib.Core.List.{List, [], _∷_, _++_, append-nil}
 use mathlib.Core.Option.{Option, none, some}
 use Prim.Native.Nat.{ℕ, zero, suc, _+_, _*_, _≤_}
+use native.Mathlib.Nat.{add-zero}
 use native.Mathlib.Omega.{arith}
-use lib.Dec.{eqb}
+use lib.Dec.{leb, ltb, eqb}
 use lib.ListN.{length, getD, take, drop, length-drop}
 use lib.Seq.{ext-getD, getD-drop}
-use Rattle.bitfield.specs.Field.{getField, Apart}
+use borrow.Author.Tests.{ltb-false, leb-false}
+use Rattle.bitfield.specs.Field.{bit, getField, Apart}
 use Rattle.bitfield.proofs.Laws.{get-put-other, byte-put}
+use Rattle.wire.specs.Digits.{Bytes}
 use Rattle.wire.specs.Packet.{addressOf, requestPacket}
 use Rattle.plan.specs.Stores.{Entry, applied}
 use Rattle.messages.specs.Message.{Request, Reply, IsRequest}
@@ -22,7 +25,6 @@ use Rattle.store.specs.Fields.{Field, write}
 use Rattle.store.specs.Settings.{Listed, settingAt, current}
 use Rattle.store.specs.Contents.{isOn, dateOf, tagOf, formerTagOf}
 use Rattle.store.specs.declared.settings.Row.{Row}
-use Rattle.store.proofs.StoreLaws.{SpareKept}
 use Rattle.store.proofs.SettingLaws.{setting-listed, setting-told}
 use Rattle.calls.specs.Board.{Identity, Answer}
 use Rattle.calls.specs.Lists.{seen, run}
@@ -31,8 +33,8 @@ use Rattle.packets.specs.Packets.{BoardOutcome, holding, toOwn}
 use Rattle.board.specs.BoardKind.{boardKind}
 use Rattle.board.specs.Demand3.{Trace, Events}
 use Rattle.board.specs.ByteCalls.{byteCalls, waits}
-use Rattle.exchange.specs.Rows.{Idle, Ready, isRead, heard, Asks, Kept, Changes, isTag}
-use Rattle.exchange.proofs.RowLaws.{rest, own-seen, request-keeps, ready-asks}
+use Rattle.exchange.specs.Rows.{Idle, Ready, isRead, heard, Asks, Kept, Changes, isWithin, isTag}
+use Rattle.exchange.proofs.RowLaws.{rest, own-seen, ready-asks}
 
 -- ---- what is heard of a request is what is heard of its effect
 
@@ -61,12 +63,33 @@ module _ (i : Identity) (r : Request) (h : IsRequest r) (lent : ℕ → List ℕ
 
 -- ---- two stores that differ in some bits alone
 
-pub record Elsewhere (at width : ℕ) (m u : List ℕ) : Type 0 where
+-- only bits of those from at on, as many as width says, and of these only ones that may change
+pub record Elsewhere (mayChange : ℕ → Bool) (at width : ℕ) (m u : List ℕ) : Type 0 where
   pub fields : (at′ width′ : ℕ) → Apart at width at′ width′ → getField u at′ width′ ≡ getField m at′ width′
   pub bytes : (j : ℕ) → Apart at width (8 * j) 8 → getD u j 0 ≡ getD m j 0
+  pub bits : (k : ℕ) → mayChange k ≡ false → bit u k ≡ bit m k
 
-pub field-elsewhere : (m : List ℕ) (f : Field) (v : ℕ) → Elsewhere (f .at) (f .width) m (write m f v)
-field-elsewhere m f v = record { fields = get-put-other m (f .at) (f .width) v; bytes = byte-put m (f .at) (f .width) v }
+-- a bit that is not within some bits is apart from them
+pub bit-apart : (at width k : ℕ) → isWithin at width k ≡ false → Apart at width k 1
+bit-apart at width k h = go (leb at k) (ltb k (at + width)) refl refl h
+  where
+    go : (x y : Bool) → leb at k ≡ x → ltb k (at + width) ≡ y → (x && y) ≡ false → Apart at width k 1
+    go true true a b n = absurd (false≢true (sym n))
+    go true false a b n = inl (ltb-false k (at + width) b)
+    go false y a b n = inr (omega (arith, leb-false at k a))
+
+-- a field of one bit is that bit
+pub bit-same : (m u : List ℕ) (k : ℕ) → getField u k 1 ≡ getField m k 1 → bit u k ≡ bit m k
+unfolding getField
+bit-same m u k e = let f = rw (add-zero k) at e in omega arith
+
+pub elsewhere : (at width : ℕ) (m u : List ℕ) → ((at′ width′ : ℕ) → Apart at width at′ width′ → getField u at′ width′ ≡ getField m at′ width′)
+    → ((j : ℕ) → Apart at width (8 * j) 8 → getD u j 0 ≡ getD m j 0) → Elsewhere (isWithin at width) at width m u
+elsewhere at width m u f b = record { fields = f; bytes = b; bits = λ k n. bit-same m u k (f k 1 (bit-apart at width k n)) }
+
+pub field-elsewhere : (m : List ℕ) (f : Field) (v : ℕ) → Elsewhere (isWithin (f .at) (f .width)) (f .at) (f .width) m (write m f v)
+field-elsewhere m f v =
+    elsewhere (f .at) (f .width) m (write m f v) (get-put-other m (f .at) (f .width) v) (byte-put m (f .at) (f .width) v)
 
 -- what is read of a store and may not move lies elsewhere: settings, power, date, and both tags with their lengths
 pub record Clear (mayMove : Request → Bool) (at width : ℕ) : Type 0 where
@@ -79,7 +102,7 @@ drop-same : (k : ℕ) (m u : List ℕ) → length u ≡ length m → ((j : ℕ) 
 drop-same k m u l f =
     ext-getD 0 (drop k u) (drop k m) (simp (length-drop, l)) (λ j _. getD-drop k u j 0 ∙ f (k + j) (omega arith) ∙ sym (getD-drop k m j 0))
 
-module _ {at width : ℕ} {m u : List ℕ} (e : Elsewhere at width m u) where
+module _ {mayChange : ℕ → Bool} {at width : ℕ} {m u : List ℕ} (e : Elsewhere mayChange at width m u) where
   power-same : Apart at width 53 1 → isOn u ≡ isOn m
   unfolding isOn
   power-same a = ap (λ (x : ℕ). eqb x 1) (e .fields 53 1 a)
@@ -137,9 +160,9 @@ module _ {at width : ℕ} {m u : List ℕ} (e : Elsewhere at width m u) where
 
 -- ---- a request that stores
 
-kept : {i : Identity} {m u : List ℕ} {mayMove : Request → Bool} {at width : ℕ} → Idle (holding i []) m → Idle (holding i []) u
-    → SpareKept m u → Elsewhere at width m u → Clear mayMove at width → Kept mayMove i m u
-kept {i} {m} {u} before after spare e c =
+kept : {i : Identity} {m u : List ℕ} {mayMove : Request → Bool} {mayChange : ℕ → Bool} {at width : ℕ} → Idle (holding i []) m → Idle (holding i []) u
+    → Elsewhere mayChange at width m u → Clear mayMove at width → Kept mayMove mayChange i m u
+kept {i} {m} {u} before after e c =
     record {
       reads = λ r h t n lent room.
           let k = length (requestText r) + 10 in
@@ -147,19 +170,20 @@ kept {i} {m} {u} before after spare e c =
           heard-effect i r h lent room u after
           ∙ ap (λ (x : Effect). heardThen lent k (toOwn i x (lent k))) (read-same e i l c r t n)
           ∙ sym (heard-effect i r h lent room m before);
-      spare-bits = spare .bits;
-      spare-bytes = spare .bytes;
+      bits = e .bits;
     }
 
--- an effect whose stores change some bits alone, by what then holds of an idle board
-pub changes : {i : Identity} {m u : List ℕ} {x : Reply} {es : List Entry} {mayMove : Request → Bool} {Then : List ℕ → Type 0} {at width : ℕ}
-    → Ready i m → (r : Request) → IsRequest r → effectOf i m r ≡ replies x es → applied es m ≡ u
-    → Elsewhere at width m u → Clear mayMove at width → (Idle (holding i []) u → Then u) → Changes i m r x mayMove Then
-changes {i} {m} {u} {x} ready r h is q e c then =
+-- an effect whose stores change some bits alone and are bytes, by what then holds of an idle board
+pub changes : {i : Identity} {m u : List ℕ} {x : Reply} {es : List Entry} {mayMove : Request → Bool} {mayChange : ℕ → Bool}
+    {Then : List ℕ → Type 0} {at width : ℕ}
+    → Ready i m → (r : Request) → IsRequest r → effectOf i m r ≡ replies x es → applied es m ≡ u → Bytes u
+    → Elsewhere mayChange at width m u → Clear mayMove at width → (Idle (holding i []) u → Then u) → Changes i m r x mayMove mayChange Then
+changes {i} {m} {u} {x} ready r h is q b e c then =
     let asked = subst (Asks i m r x) q (ready-asks i m ready r h is) in
     record {
       left = u;
       asked = asked;
-      kept = kept (ready .rests) (asked .rests) (subst (SpareKept m) q (request-keeps i m (ready .rests) r h is .spare)) e c;
+      ready = record { rests = asked .rests; in-bytes = record { serial = ready .in-bytes .serial; model = ready .in-bytes .model; store = b } };
+      kept = kept (ready .rests) (asked .rests) e c;
       shown = then (asked .rests);
     }

@@ -3,8 +3,10 @@ pub mod ReplyLaws
 pub mod Replies
 pub mod Refusals
 pub mod RowLaws
+pub mod StoreBytes
 pub mod KeptLaws
 pub mod Sets
+pub mod Erase
 pub mod Contents
 pub mod Rows
 pub mod Demand2

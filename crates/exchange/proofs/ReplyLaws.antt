@@ -87,7 +87,7 @@ bytes-take (suc n) [] h i = h i
 bytes-take (suc n) (x ∷ s) h zero = h zero
 bytes-take (suc n) (x ∷ s) h (suc i) = bytes-take n s (λ j. h (suc j)) i
 
-bytes-part : (n at : ℕ) (s : List ℕ) → Bytes s → Bytes (take n (drop at s))
+pub bytes-part : (n at : ℕ) (s : List ℕ) → Bytes s → Bytes (take n (drop at s))
 bytes-part n at s h = bytes-take n (drop at s) (λ i. rw (getD-drop at s i 0) (h (at + i)))
 
 -- ---- every reply has a text

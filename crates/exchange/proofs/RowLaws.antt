@@ -16,7 +16,7 @@ use Rattle.calls.specs.Lists.{seen, run}
 use Rattle.actions.specs.Act.{Effect, replies, says, effectOf, effect}
 use Rattle.packets.specs.Packets.{BoardOutcome, holding, replyFrom, toOwn, toAll, onPacket}
 use Rattle.packets.proofs.IdentityLaws.{Named, named-told}
-use Rattle.packets.proofs.EffectLaws.{Keeps, effect-keeps}
+use Rattle.packets.proofs.EffectLaws.{effect-keeps}
 use Rattle.board.specs.BoardKind.{boardKind}
 use Rattle.board.specs.Demand3.{Events}
 use Rattle.board.specs.ByteCalls.{byteCalls, waits, seenThen}
@@ -52,7 +52,7 @@ module _ (i : Identity) (m : List ℕ) (idle : Idle (holding i []) m) where
           let last = lent (length text + 10) in
           packet-seen (addressOf (i .id)) (own-done i m last kind text most ∙ ap (λ (x : Effect). toOwn i x last) is)
 
-      all-seen : {x : Effect} → effect i m (requestIn kind text) ≡ x → Seen allAddress (toAll i x (lent (length text + 10)))
+      pub all-seen : {x : Effect} → effect i m (requestIn kind text) ≡ x → Seen allAddress (toAll i x (lent (length text + 10)))
       all-seen is =
           let last = lent (length text + 10) in
           packet-seen allAddress (all-done i m last kind text most ∙ ap (λ (x : Effect). toAll i x last) is)
@@ -72,15 +72,12 @@ module _ (i : Identity) (m : List ℕ) (idle : Idle (holding i []) m) where
 
   -- ---- a request
 
-  module _ (r : Request) (h : IsRequest r) {x : Reply} {es : List Entry} (is : effectOf i m r ≡ replies x es) where
-    pub request-effect : effect i m (requestIn (requestType r) (requestText r)) ≡ replies x es
-    request-effect = ap (effect i m) (request-back r h) ∙ is
+  pub request-effect : (r : Request) {x : Effect} → IsRequest r → effectOf i m r ≡ x → effect i m (requestIn (requestType r) (requestText r)) ≡ x
+  request-effect r h is = ap (effect i m) (request-back r h) ∙ is
 
-    pub request-keeps : Keeps m es
-    request-keeps = effect-keeps i m (requestType r) (requestText r) (rest .size) (rest .ranged) request-effect
-
-    pub asks : IsReply x → Asks i m r x (applied es m)
-    asks y = exchanged (requestType r) (requestText r) (request-type r) (request-length r h .0) (request-length r h .1) request-effect y
+  pub asks : (r : Request) {x : Reply} {es : List Entry} → IsRequest r → effectOf i m r ≡ replies x es → IsReply x → Asks i m r x (applied es m)
+  asks r h is y =
+      exchanged (requestType r) (requestText r) (request-type r) (request-length r h .0) (request-length r h .1) (request-effect r h is) y
 
   -- one that stores nothing
   pub shows : (r : Request) {x : Reply} → IsRequest r → effectOf i m r ≡ says x → IsReply x → Shows i m r x

@@ -24,10 +24,11 @@ use Rattle.store.proofs.SettingLaws.{each-setting, same-or-apart-row, setting-f
 use Rattle.calls.specs.Board.{Identity}
 use Rattle.actions.specs.Act.{replies, says, isErase, getEffect, setEffect, effectOf}
 use Rattle.packets.specs.Packets.{holding}
-use Rattle.exchange.specs.Rows.{Idle, Ready, Asks, Shows, Changes, IsOn, IsStandby}
+use Rattle.exchange.specs.Rows.{Idle, Ready, Asks, Shows, Changes, isWithin, IsOn, IsStandby}
 use Rattle.exchange.specs.Rows.{Setting, table, IsUnlisted, isInput, shownOf, shownAfter, isGetOf}
 use Rattle.exchange.proofs.ReplyLaws.{get-sayable}
 use Rattle.exchange.proofs.RowLaws.{rest, shows, ready-shows}
+use Rattle.exchange.proofs.StoreBytes.{field-bytes}
 use Rattle.exchange.proofs.KeptLaws.{Clear, field-elsewhere, changes}
 
 -- ---- the table
@@ -186,6 +187,7 @@ module _ (i : Identity) (m : List ℕ) (ready : Ready i m) where
 
   pub set : (t : Setting) → List·Memᴰ t table → (v : ℕ) → IsOn m → t .takes v ≡ true
       → Changes i m (setParameter (t .page) (t .code) v) (setReply 0 (t .page) (t .code) 0 (t .largest) v) (isGetOf (t .page) (t .code))
+      (isWithin (t .at) (t .width))
       (λ m′. Shows i m′ (getParameter (t .page) (t .code)) (getReply 0 (t .page) (t .code) 0 (t .largest) (shownAfter (t .page) (t .code) v)))
   unfolding isOn
   set = table-by _ (λ r l v on h.
@@ -193,7 +195,8 @@ module _ (i : Identity) (m : List ℕ) (ready : Ready i m) where
       let k = kept (r .values) v in
       let inside : r .at + r .width ≤ 8 * length m = omega (arith, before-power r l, rest i m (ready .rests) .size) in
       changes ready (setParameter (r .page) (r .code) v) (page-below r l, code-below r l, value-below r v l h) (accepted r v l (eq-eqb _ 1 on) h)
-      (field-applied m f k) (field-elsewhere m f k) (setting-clear r l) (λ idle. get-shows idle r l (set-shows m r v l inside h ∙ row-settles r v l)))
+      (field-applied m f k) (field-bytes m f k (ready .in-bytes .store)) (field-elsewhere m f k) (setting-clear r l)
+      (λ idle. get-shows idle r l (set-shows m r v l inside h ∙ row-settles r v l)))
 
   pub set-refused : (t : Setting) → List·Memᴰ t table → (v : ℕ) → v < 65536 → (t .takes v ≡ false) ⊎ IsStandby m
       → Asks i m (setParameter (t .page) (t .code) v) (setReply 1 (t .page) (t .code) 0 (t .largest) v) m
@@ -208,6 +211,6 @@ module _ (i : Identity) (m : List ℕ) (ready : Ready i m) where
   set-unlisted page code v p c w n =
       ready-shows i m ready (setParameter page code v) (p, c, w) (rw (unlisted-not-erase page code n, unlisted-none page code n))
 
-  pub set-erase : (v : ℕ) → v < 65536 → v ≢ 1 → Asks i m (setParameter 0xF0 0x01 v) (setReply 1 0xF0 0x01 1 1 v) m
+  pub set-erase-refused : (v : ℕ) → v < 65536 → v ≢ 1 → Asks i m (setParameter 0xF0 0x01 v) (setReply 1 0xF0 0x01 1 1 v) m
   unfolding effectOf setEffect
-  set-erase v w n = ready-shows i m ready (setParameter 0xF0 0x01 v) (omega arith, omega arith, w) (rw (ne-eqb v 1 n))
+  set-erase-refused v w n = ready-shows i m ready (setParameter 0xF0 0x01 v) (omega arith, omega arith, w) (rw (ne-eqb v 1 n))

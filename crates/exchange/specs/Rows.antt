@@ -1,14 +1,14 @@
 -- The rows of the message table at a board (docs/RULES.md, 'What a good packet does', AC1 to AC11), each by packets given to an idle board: what it
--- replies, what the station reads in the reply, what is stored, and what later packets show of it. The numbers are written out.
+-- replies, what the station reads in the reply, what is stored, and what later packets show of it. Pages, codes, values, places and modes are written
+-- out; the bytes of the packets are in Examples.antt.
 use mathlib.Core.Bool.{Bool, true, false, cond, _&&_, _||_}
 use mathlib.Core.List.{List, [], _∷_, _++_, List·Memᴰ}
 use mathlib.Core.Logic.{_⊎_, _≢_}
-use mathlib.Core.Option.{none}
 use mathlib.Core.Path.{_≡_}
-use Prim.Native.Nat.{ℕ, _+_, _≤_, _<_}
-use lib.Dec.{leb, eqb}
-use lib.ListN.{length, getD, take, drop}
-use Rattle.bitfield.specs.Field.{getField}
+use Prim.Native.Nat.{ℕ, _+_, _-_, _≤_, _<_}
+use lib.Dec.{leb, ltb, eqb}
+use lib.ListN.{length, set, take, drop, replicate}
+use Rattle.bitfield.specs.Field.{bit, getField}
 use Rattle.wire.specs.Digits.{Bytes}
 use Rattle.wire.specs.Packet.{requestPacket, over}
 use Rattle.wire.specs.Judge.{isRequestType}
@@ -16,15 +16,14 @@ use Rattle.messages.specs.Message.{Request, Reply, IsRequest, IsItem, IsDate}
 use Rattle.messages.specs.Message.Request.{getParameter, setParameter, powerRead, powerControl, dateRead, dateWrite, itemRead, tagWrite}
 use Rattle.messages.specs.Message.Reply.{null, getReply, setReply, powerReadReply, powerControlReply, dateReadReply, dateWriteReply, itemReply, tagWriteReply}
 use Rattle.messages.specs.Text.{requestType, requestText}
-use Rattle.messages.specs.Read.{requestIn}
 use Rattle.messages.specs.declared.message.Date.{Date}
 use Rattle.messages.specs.declared.message.Item.{Item}
-use Rattle.calls.specs.Board.{Identity, Answer, silent, reply, idle, after}
+use Rattle.calls.specs.Board.{Identity, Answer, silent, begun, reply, idle, pending, after}
 use Rattle.calls.specs.Calls.{isSound, onCall}
 use Rattle.calls.specs.Lists.{answered, started, unstarted, run}
 use Rattle.packets.specs.Packets.{BoardState, holding}
 use Rattle.board.specs.BoardKind.{byte, boardKind}
-use Rattle.board.specs.Demand3.{Events, Trace}
+use Rattle.board.specs.Demand3.{Events, Trace, eraseRequest}
 use Rattle.board.specs.ByteCalls.{byteCalls, waits}
 use Rattle.station.specs.Read as station
 
@@ -90,20 +89,24 @@ heard (answered a lent m ∷ os) = (a, lent) ∷ heard os
 heard (started m ∷ os) = heard os
 heard (unstarted n ∷ os) = heard os
 
--- all reads but those that may move get from m′ what they get from m; the spare bits 94 and 95 and the bytes from 44 on are as they were
-pub record Kept (mayMove : Request → Bool) (i : Identity) (m m′ : List ℕ) : Type 0 where
+-- all reads but those that may move get from m′ what they get from m, and every bit but those that may change is as it was
+pub record Kept (mayMove : Request → Bool) (mayChange : ℕ → Bool) (i : Identity) (m m′ : List ℕ) : Type 0 where
   pub reads : (r : Request) → IsRequest r → isRead r ≡ true → mayMove r ≡ false → (lent : ℕ → List ℕ) → ((k : ℕ) → 64 ≤ length (lent k))
       → heard (run boardKind i (holding i []) m′ (byteCalls lent 0 (requestPacket (0x40 + i .id) (requestType r) (requestText r))))
       ≡ heard (run boardKind i (holding i []) m (byteCalls lent 0 (requestPacket (0x40 + i .id) (requestType r) (requestText r))))
-  pub spare-bits : getField m′ 94 2 ≡ getField m 94 2
-  pub spare-bytes : (j : ℕ) → 44 ≤ j → getD m′ j 0 ≡ getD m j 0
+  pub bits : (k : ℕ) → mayChange k ≡ false → bit m′ k ≡ bit m k
 
--- a request that gets x and stores something: what holds of the store after it
-pub record Changes (i : Identity) (m : List ℕ) (r : Request) (x : Reply) (mayMove : Request → Bool) (Then : List ℕ → Type 0) : Type 0 where
+-- a request that gets x and stores something: the board is ready again, and what holds of its store
+pub record Changes (i : Identity) (m : List ℕ) (r : Request) (x : Reply) (mayMove : Request → Bool) (mayChange : ℕ → Bool) (Then : List ℕ → Type 0) : Type 0 where
   pub left : List ℕ
   pub asked : Asks i m r x left
-  pub kept : Kept mayMove i m left
+  pub ready : Ready i left
+  pub kept : Kept mayMove mayChange i m left
   pub shown : Then left
+
+-- some bits from one on
+abbrev pub isWithin : ℕ → ℕ → ℕ → Bool
+isWithin at width k = leb at k && ltb k (at + width)
 
 -- ---- the settings
 
@@ -230,7 +233,32 @@ isTagRead (dateWrite d) = false
 isTagRead (itemRead x) = isTag x
 isTagRead (tagWrite tag) = false
 
+-- lengths in bits 84 to 93, tags in bytes 12 to 43
+abbrev pub mayChangeTags : ℕ → Bool
+mayChangeTags k = isWithin 84 10 k || isWithin 96 256 k
+
+pub record TagsMoved (i : Identity) (m tag m′ : List ℕ) : Type 0 where
+  pub tag-shown : Shows i m′ (itemRead Item.Tag) (itemReply Item.Tag tag)
+  pub former-shown : Shows i m′ (itemRead Item.FormerTag) (itemReply Item.FormerTag (tagIn m))
+  pub tag-bytes : take 16 (drop 12 m′) ≡ tag ++ replicate (16 - length tag) 0x00
+  pub former-bytes : take 16 (drop 28 m′) ≡ take 16 (drop 12 m)
+
+-- ---- the erase
+
+-- the request to the board's ID, after which the last step owes the reply, and to ALL
+pub record BeginsErase (i : Identity) (m : List ℕ) : Type 0 where
+  pub by-id : (lent : ℕ → List ℕ) → ((k : ℕ) → 64 ≤ length (lent k)) → (es : Events)
+      → run boardKind i (holding i []) m (byteCalls lent 0 (eraseRequest (0x40 + i .id)) ++ es)
+      ≡ waits lent m 0 18 ++ (answered begun (lent 18) (set m 0 0xE7) ∷ run boardKind i (record { ident = i; held = []; erase = pending 1 true }) (set m 0 0xE7) es)
+  pub by-all : (lent : ℕ → List ℕ) → ((k : ℕ) → 64 ≤ length (lent k)) → (es : Events)
+      → run boardKind i (holding i []) m (byteCalls lent 0 (eraseRequest 0x2A) ++ es)
+      ≡ waits lent m 0 18 ++ (answered begun (lent 18) (set m 0 0xE7) ∷ run boardKind i (record { ident = i; held = []; erase = pending 1 false }) (set m 0 0xE7) es)
+
 -- ---- what is refused
+
+-- the type and the text of no request
+abbrev pub IsOther : ℕ → List ℕ → Type 0
+IsOther kind text = (r : Request) → IsRequest r → (requestType r ≡ kind) × (requestText r ≡ text) → ⊥
 
 -- result 01, status 01 or NULL
 abbrev pub isRefusal : Reply → Bool
@@ -257,35 +285,35 @@ pub record Rows (i : Identity) (m : List ℕ) : Type 0 where
   -- Set: on, a value that is taken shows in the next Get and moves nothing else
   pub set : (t : Setting) → List·Memᴰ t table → (v : ℕ) → IsOn m → t .takes v ≡ true
       → Changes i m (setParameter (t .page) (t .code) v) (setReply 0 (t .page) (t .code) 0 (t .largest) v) (isGetOf (t .page) (t .code))
-      (λ m′. Shows i m′ (getParameter (t .page) (t .code)) (getReply 0 (t .page) (t .code) 0 (t .largest) (shownAfter (t .page) (t .code) v)))
+      (isWithin (t .at) (t .width)) (λ m′. Shows i m′ (getParameter (t .page) (t .code)) (getReply 0 (t .page) (t .code) 0 (t .largest) (shownAfter (t .page) (t .code) v)))
   -- another value, and every Set in standby, gets result 01; so does a pair that is not listed, and the erase with another value than 1
   pub set-refused : (t : Setting) → List·Memᴰ t table → (v : ℕ) → v < 65536 → (t .takes v ≡ false) ⊎ IsStandby m
       → Asks i m (setParameter (t .page) (t .code) v) (setReply 1 (t .page) (t .code) 0 (t .largest) v) m
   pub set-unlisted : (page code v : ℕ) → page < 256 → code < 256 → v < 65536 → IsUnlisted page code
       → Asks i m (setParameter page code v) (setReply 1 page code 0 0 v) m
-  pub set-erase : (v : ℕ) → v < 65536 → v ≢ 1 → Asks i m (setParameter 0xF0 0x01 v) (setReply 1 0xF0 0x01 1 1 v) m
+  pub set-erase-refused : (v : ℕ) → v < 65536 → v ≢ 1 → Asks i m (setParameter 0xF0 0x01 v) (setReply 1 0xF0 0x01 1 1 v) m
+  -- with 1 an erase begins, on or in standby: E7h in byte 0, and demand 3 says what follows
+  pub set-erase : BeginsErase i m
   -- power: 1 is on, 4 is standby
   pub power-on : IsOn m → Shows i m powerRead (powerReadReply 0 1)
   pub power-standby : IsStandby m → Shows i m powerRead (powerReadReply 0 4)
   pub power-control : (mode : ℕ) → (mode ≡ 1) ⊎ (mode ≡ 4)
-      → Changes i m (powerControl mode) (powerControlReply 0 mode) isPowerRead (λ m′. Shows i m′ powerRead (powerReadReply 0 mode))
+      → Changes i m (powerControl mode) (powerControlReply 0 mode) isPowerRead (isWithin 53 1) (λ m′. Shows i m′ powerRead (powerReadReply 0 mode))
   pub power-refused : (mode : ℕ) → mode < 65536 → mode ≢ 1 → mode ≢ 4 → Asks i m (powerControl mode) (powerControlReply 1 mode) m
   -- date
   pub date-read : Shows i m dateRead (dateReadReply (dateIn m))
   pub date-write : (d : Date) → takesDate d ≡ true
-      → Changes i m (dateWrite d) (dateWriteReply 0 d) isDateRead (λ m′. Shows i m′ dateRead (dateReadReply d))
+      → Changes i m (dateWrite d) (dateWriteReply 0 d) isDateRead (isWithin 54 30) (λ m′. Shows i m′ dateRead (dateReadReply d))
   pub date-refused : (d : Date) → IsDate d → takesDate d ≡ false → Asks i m (dateWrite d) (dateWriteReply 1 d) m
   -- serial number and model
   pub serial-read : Shows i m (itemRead Item.Serial) (itemReply Item.Serial (i .serial))
   pub model-read : Shows i m (itemRead Item.Model) (itemReply Item.Model (i .model))
-  -- tags: F010 shows the new one, F012 the one before
+  -- tags: F010 shows the new one, F012 the one before; in the store the new one has 00h behind it, and the old one's 16 bytes are the former one's
   pub tag-read : Shows i m (itemRead Item.Tag) (itemReply Item.Tag (tagIn m))
   pub former-read : Shows i m (itemRead Item.FormerTag) (itemReply Item.FormerTag (formerTagIn m))
-  pub tag-write : (tag : List ℕ) → IsItem tag
-      → Changes i m (tagWrite tag) (tagWriteReply 0 tag) isTagRead
-      (λ m′. Shows i m′ (itemRead Item.Tag) (itemReply Item.Tag tag) × Shows i m′ (itemRead Item.FormerTag) (itemReply Item.FormerTag (tagIn m)))
-  -- anything else
-  pub other : (kind : ℕ) (text : List ℕ) → isRequestType kind ≡ true → 2 ≤ length text → length text ≤ 62 → requestIn kind text ≡ none
+  pub tag-write : (tag : List ℕ) → IsItem tag → Changes i m (tagWrite tag) (tagWriteReply 0 tag) isTagRead mayChangeTags (TagsMoved i m tag)
+  -- what no request says
+  pub other : (kind : ℕ) (text : List ℕ) → isRequestType kind ≡ true → 2 ≤ length text → length text ≤ 62 → IsOther kind text
       → Exchange i m kind text null m
 
 -- of any board: a reply in which the station reads a refusal leaves every stored byte
