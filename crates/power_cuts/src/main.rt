@@ -1,19 +1,63 @@
-// Power cuts in an erase: whole lists of calls and cuts, each played in one call, and what is seen of them.
+// An erase that loses its power twice, and what comes after it on the same board: from its acceptance on all calls and cuts are one list,
+// played in one call. What comes after is then played alone on an unused board, and compared.
 ghost use mathlib.Core.Path.{_≡_};
 ghost use Prim.Native.Nat.{_≤_};
 ghost use lib.ListN.{length};
 use board::board::Board;
-use board::board::StartAnswer;
 use store::fields;
 
 mod list;
 mod tell;
 
 fn main() {
+    let mut events = [0u16; 1200];
+    let middle = list::erase_with_cuts(&mut events);
+    let end = list::after_erase(&mut events, middle);
+    if end == 1200 {
+        io::write_all(1, b"the list does not fit its array\n");
+        return;
+    }
+    play_and_compare(&events[..end], middle);
+}
+
+// The whole list after an accepted erase, then its second part, from `middle` on, alone. An event has two numbers in the list and 130 in the log.
+fn play_and_compare(events: &[u16], middle: usize)
+    requires { ⌜ (middle ≤ length (now events)) × (length (now events) ≤ 1200) ⌝ }
+{
+    let mut lent = filled_buffers();
+    let mut log = empty_log();
     let mut store = fields::unused();
-    fill_spare(&mut store);
-    erase_with_cuts(&mut store);
-    compare_with_unused(&mut store);
+    let beside = play_whole(&mut store, events, &mut lent, &mut log);
+    let from = tell::parts(events, middle, &lent, &log, beside);
+    if from == 38400 {
+        return;
+    }
+    let at = 65 * middle + 130;
+    compare(&events[middle..], from, at, &lent[from..], &log[at..]);
+}
+
+// A past, then in one call the last byte of its erase request and the whole list. The store before that call is set down before the first entry
+// of the log, so the mark that the byte stores shows in the first event. How many bytes of the byte's own buffer were written: it has no reply.
+fn play_whole(store: &mut [u8; 128], events: &[u16], lent: &mut [u8], log: &mut [usize]) -> u64
+    requires { ⌜ 130 ≤ length (now log) ⌝ }
+{
+    fill_spare(store);
+    let board = after_past(store);
+    set_down(store, log);
+    let mut reply = [0xA5u8; 64];
+    let begun = play::play_erase(
+        board,
+        0x0D,
+        1,
+        b"SN-1",
+        b"M",
+        store,
+        &mut reply,
+        events,
+        lent,
+        &mut log[130..],
+    );
+    tell::acceptance(begun, &reply)
 }
 
 // Something in each spare byte, as an older use may have left it: the number of its place. So each step of an erase shows there.
@@ -25,80 +69,29 @@ fn fill_spare(store: &mut [u8; 128]) {
     }
 }
 
-// The first list; what it leaves in the store is what the second begins with.
-fn erase_with_cuts(store: &mut [u8; 128]) {
-    let mut events = [0u16; 800];
-    let n = list::erase_with_cuts(&mut events);
-    let mut lent = empty_buffers();
-    let mut log = empty_log();
-    play_on(store, &events[..n], &mut lent, &mut log);
-    io::write_all(1, b"an erase with two power cuts, on a board with a past\n");
-    tell::list(&events[..n], &lent, &log);
-}
-
-// The second list, on the erased store and on one that was never used.
-fn compare_with_unused(store: &mut [u8; 128]) {
-    let mut events = [0u16; 800];
-    let n = list::after_erase(&mut events);
-    let mut lent = empty_buffers();
-    let mut log = empty_log();
-    play_on(store, &events[..n], &mut lent, &mut log);
-    io::write_all(1, b"calls after it, on the erased board\n");
-    tell::list(&events[..n], &lent, &log);
-    let mut unused = fields::unused();
-    let mut unused_lent = empty_buffers();
-    let mut unused_log = empty_log();
-    play_on(&mut unused, &events[..n], &mut unused_lent, &mut unused_log);
-    tell::comparison(&log, &unused_log, &lent, &unused_lent);
-}
-
-// Plays a list in one call, on the board that a start gives on the store. In the log the store as it was stands before the first entry.
-fn play_on(store: &mut [u8; 128], events: &[u16], lent: &mut [u8], log: &mut [usize])
-    requires { ⌜ 130 ≤ length (now log) ⌝ }
-{
-    if !fits(events, lent.len(), log.len()) {
-        io::write_all(1, b"the list does not fit the log or the lent bytes\n");
-        return;
-    }
-    set_down(store, log);
-    let board = start_on(store, b"SN-1", b"M");
-    play::play(
+// The board after backlight 100, the tag HOTEL, then the tag SEASIDE, and the erase request without its last byte.
+fn after_past(store: &mut [u8; 128]) -> Board {
+    let mut reply = [0xA5u8; 64];
+    let started = board::board::start(store, 1, b"SN-1", b"M");
+    let board = started.board;
+    after_bytes(
         board,
-        1,
-        b"SN-1",
-        b"M",
         store,
-        events,
-        lent,
-        &mut log[130..],
-    );
+        b"\x010A0E0A\x0200100064\x03w\x0D\x010A0A10\x02F011484F54454C\x03\x7F\x0D\x010A0A14\x02F01153454153494445\x03z\x0D\x010A0E0A\x02F0010001\x03\x02",
+        &mut reply,
+    )
 }
 
-// The board that a start gives.
-fn start_on(store: &[u8], serial: &[u8], model: &[u8]) -> Board {
-    let started = board::board::start(store, 1, serial, model);
-    let answer = started.answer;
-    if let StartAnswer::Refused(refusal) = answer {
-        io::write_all(1, b"no start: ");
-        io::print_decimal(1, refusal.number() as u64);
-        io::write_all(1, b"\n");
-    }
-    started.board
-}
-
-// Whether a log has room for each event of a list and for the store before it, and the lent bytes are enough.
-fn fits(events: &[u16], lent: usize, log: usize) -> bool {
-    let mut left = lent;
+// The board after some bytes.
+fn after_bytes(first: Board, store: &mut [u8], bytes: &[u8], reply: &mut [u8]) -> Board {
+    let mut board = first;
     let mut i: usize = 0;
-    while i < events.len() / 2 {
-        let wanted = events[2 * i + 1] as usize;
-        if left < wanted {
-            return false;
-        }
-        left -= wanted;
+    while i < bytes.len() {
+        let done = board.byte(store, bytes[i], reply);
+        board = done.board;
         i += 1;
     }
-    events.len() / 2 < log / 130
+    board
 }
 
 // Writes the store before a list where an entry has it.
@@ -117,16 +110,55 @@ fn wide(b: u8) -> usize {
     b as usize
 }
 
-// Room for 400 events and the store before them: 130 numbers each. The `ensures` gives only the length, which lending it needs.
-fn empty_log() -> [usize; 52130]
-    ensures { λ r. ⌜ 52130 ≡ length r ⌝ }
+// Compares with an unused board the events whose buffers and entries begin at these places. Its own begin at the same places.
+fn compare(events: &[u16], from: usize, at: usize, lent: &[u8], log: &[usize])
+    requires { ⌜ (from ≤ 38400) × (at ≤ 78130) ⌝ }
 {
-    [0; 52130]
+    let mut other_lent = filled_buffers();
+    let mut other_log = empty_log();
+    play_alone(
+        events,
+        lent,
+        log,
+        &mut other_lent[from..],
+        &mut other_log[at..],
+    );
 }
 
-// Room for 400 lent buffers of 64 bytes.
-fn empty_buffers() -> [u8; 25600]
-    ensures { λ r. ⌜ 25600 ≡ length r ⌝ }
+// Plays events on an unused board, in one call, and compares. A refused start would give a board that refuses them all, and so show.
+fn play_alone(
+    events: &[u16],
+    lent: &[u8],
+    log: &[usize],
+    other_lent: &mut [u8],
+    other_log: &mut [usize],
+) {
+    let mut store = fields::unused();
+    let started = board::board::start(&store, 1, b"SN-1", b"M");
+    let board = started.board;
+    play::play(
+        board,
+        1,
+        b"SN-1",
+        b"M",
+        &mut store,
+        events,
+        other_lent,
+        other_log,
+    );
+    tell::comparison(log, other_log, lent, other_lent);
+}
+
+// Room for 600 events and the store before them: 130 numbers each. The `ensures` gives only the length, which lending it needs.
+fn empty_log() -> [usize; 78130]
+    ensures { λ r. ⌜ 78130 ≡ length r ⌝ }
 {
-    [0; 25600]
+    [0; 78130]
+}
+
+// Room for 600 lent buffers of 64 bytes. No reply has the byte A5h, so each byte that is written shows.
+fn filled_buffers() -> [u8; 38400]
+    ensures { λ r. ⌜ 38400 ≡ length r ⌝ }
+{
+    [0xA5; 38400]
 }

@@ -8,12 +8,6 @@ use Rattle.power_cuts.proofs.list.put.Tie as tie
 sub-if1 : tie.Need-sub-if1
 sub-if1 c = search needs
 
-slice-aggregate-write-all : tie.Need-slice-aggregate-write-all
-slice-aggregate-write-all c = search needs
-
-write-all-requires : tie.Need-write-all-requires
-write-all-requires c κs = search needs
-
 returns : tie.Need-returns
 returns c = search needs
 
@@ -39,15 +33,13 @@ same-length : tie.Need-same-length
 same-length c = search needs
 
 returns-2 : tie.Need-returns-2
-returns-2 c = rw (length-set, length-set) (omega arith)
+returns-2 c = (omega arith, rw (length-set, length-set) (omega arith))
 
 pub put-spec : {M : Type 1} → statement M
 put-spec =
     tie.close
     (tie.spec
     sub-if1
-    slice-aggregate-write-all
-    write-all-requires
     returns
     mul-events
     slice-write-events

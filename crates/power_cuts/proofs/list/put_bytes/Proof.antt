@@ -1,4 +1,4 @@
--- The list keeps its length, and what counts of it is within it.
+-- The list keeps its length, and what counts of it grows within it.
 use Prim.Native.Nat.{_-_, _≤_}
 use mathlib.Core.Path.{_≡_, refl}
 use mir.Facts.{fits-8-16}
@@ -8,13 +8,13 @@ use Rattle.power_cuts.proofs.list.put_bytes.Statement.{statement}
 use Rattle.power_cuts.proofs.list.put_bytes.Tie as tie
 
 abbrev Inv-loop : tie.InvT-loop
-Inv-loop events₀ at bytes n₀ i₀ events n i = (length events ≡ length events₀) × (n ≤ length events)
+Inv-loop events₀ at bytes n₀ i₀ events n i = (length events ≡ length events₀) × (at ≤ n) × (n ≤ length events)
 
 abbrev μ-loop : tie.MeasureT-loop
 μ-loop events₀ at bytes n₀ i₀ events n i = length bytes - i
 
 loop-holds : tie.Need-loop-holds Inv-loop μ-loop
-loop-holds c = (refl, omega arith)
+loop-holds c = (refl, omega arith, omega arith)
 
 shared-slice-read-put : tie.Need-shared-slice-read-put Inv-loop μ-loop
 shared-slice-read-put c = omega arith
@@ -32,13 +32,13 @@ loop-less : tie.Need-loop-less Inv-loop μ-loop
 loop-less c = omega arith
 
 loop-again : tie.Need-loop-again Inv-loop μ-loop
-loop-again c = (omega arith, omega arith)
+loop-again c = (omega arith, omega arith, omega arith)
 
 same-length : tie.Need-same-length Inv-loop μ-loop
 same-length c = omega arith
 
 returns : tie.Need-returns Inv-loop μ-loop
-returns c = omega arith
+returns c = (omega arith, omega arith)
 
 pub put-bytes-spec : {M : Type 1} → statement M
 put-bytes-spec =

@@ -1,4 +1,4 @@
--- Nothing holds from turn to turn but that a place is in the list.
+-- Each buffer lies within what is lent.
 use Prim.Native.Nat.{_-_, _≤_}
 use native.Mathlib.Omega.{arith}
 use lib.ListN.{length}
@@ -6,64 +6,16 @@ use Rattle.power_cuts.proofs.tell.list.Statement.{statement}
 use Rattle.power_cuts.proofs.tell.list.Tie as tie
 
 abbrev Inv-loop : tie.InvT-loop
-Inv-loop events lent log from₀ i₀ t6 from i = i ≤ length events
+Inv-loop events first last lent start log beside n₀ from₀ i₀ n from i = from ≤ length lent
 
 abbrev μ-loop : tie.MeasureT-loop
-μ-loop events lent log from₀ i₀ t6 from i = length events - i
+μ-loop events first last lent start log beside n₀ from₀ i₀ n from i = last - i
 
 loop-holds : tie.Need-loop-holds Inv-loop μ-loop
 loop-holds c = omega arith
 
-add-i : tie.Need-add-i Inv-loop μ-loop
-add-i c = omega arith
-
-slice-aggregate-write-all : tie.Need-slice-aggregate-write-all Inv-loop μ-loop
-slice-aggregate-write-all c = omega arith
-
-write-all-requires : tie.Need-write-all-requires Inv-loop μ-loop
-write-all-requires c κs = tt
-
-returns : tie.Need-returns Inv-loop μ-loop
-returns c = tt
-
-mul-if2 : tie.Need-mul-if2 Inv-loop μ-loop
-mul-if2 c = omega arith
-
-mul-if2-2 : tie.Need-mul-if2-2 Inv-loop μ-loop
-mul-if2-2 c = omega arith
-
-shared-slice-read-if2 : tie.Need-shared-slice-read-if2 Inv-loop μ-loop
-shared-slice-read-if2 c = omega arith
-
-mul-show-no-start : tie.Need-mul-show-no-start Inv-loop μ-loop
-mul-show-no-start c = omega arith
-
-add-show-no-start : tie.Need-add-show-no-start Inv-loop μ-loop
-add-show-no-start c = omega arith
-
-mul-show-no-start-2 : tie.Need-mul-show-no-start-2 Inv-loop μ-loop
-mul-show-no-start-2 c = omega arith
-
-shared-slice-read-show-no-start : tie.Need-shared-slice-read-show-no-start Inv-loop μ-loop
-shared-slice-read-show-no-start c = omega arith
-
-show-no-start-requires : tie.Need-show-no-start-requires Inv-loop μ-loop
-show-no-start-requires c κs = tt
-
-returns-2 : tie.Need-returns-2 Inv-loop μ-loop
-returns-2 c = tt
-
-mul-show-event : tie.Need-mul-show-event Inv-loop μ-loop
-mul-show-event c = omega arith
-
-show-event-requires : tie.Need-show-event-requires Inv-loop μ-loop
-show-event-requires c κs = (omega arith, omega arith)
-
 mul-end-of : tie.Need-mul-end-of Inv-loop μ-loop
 mul-end-of c = omega arith
-
-sub-end-of : tie.Need-sub-end-of Inv-loop μ-loop
-sub-end-of c = omega arith
 
 mul-end-of-2 : tie.Need-mul-end-of-2 Inv-loop μ-loop
 mul-end-of-2 c = omega arith
@@ -74,8 +26,8 @@ shared-slice-read-end-of c = omega arith
 mul-end-of-3 : tie.Need-mul-end-of-3 Inv-loop μ-loop
 mul-end-of-3 c = omega arith
 
-sub-end-of-2 : tie.Need-sub-end-of-2 Inv-loop μ-loop
-sub-end-of-2 c = omega arith
+add-end-of : tie.Need-add-end-of Inv-loop μ-loop
+add-end-of c = omega arith
 
 mul-end-of-4 : tie.Need-mul-end-of-4 Inv-loop μ-loop
 mul-end-of-4 c = omega arith
@@ -84,7 +36,40 @@ shared-slice-read-end-of-2 : tie.Need-shared-slice-read-end-of-2 Inv-loop μ-loo
 shared-slice-read-end-of-2 c = omega arith
 
 end-of-requires : tie.Need-end-of-requires Inv-loop μ-loop
-end-of-requires c κs = tt
+end-of-requires c κs = omega arith
+
+add-i : tie.Need-add-i Inv-loop μ-loop
+add-i c = omega arith
+
+mul-show-event : tie.Need-mul-show-event Inv-loop μ-loop
+mul-show-event c = omega arith
+
+sub-show-event : tie.Need-sub-show-event Inv-loop μ-loop
+sub-show-event c = omega arith
+
+part-show-event-start : tie.Need-part-show-event-start Inv-loop μ-loop
+part-show-event-start c = omega arith
+
+part-show-event-end : tie.Need-part-show-event-end Inv-loop μ-loop
+part-show-event-end c = omega arith
+
+show-event-requires : tie.Need-show-event-requires Inv-loop μ-loop
+show-event-requires c κs = (omega arith, omega arith)
+
+mul-count-beside : tie.Need-mul-count-beside Inv-loop μ-loop
+mul-count-beside c = omega arith
+
+sub-count-beside : tie.Need-sub-count-beside Inv-loop μ-loop
+sub-count-beside c = omega arith
+
+part-count-beside-start : tie.Need-part-count-beside-start Inv-loop μ-loop
+part-count-beside-start c = omega arith
+
+part-count-beside-end : tie.Need-part-count-beside-end Inv-loop μ-loop
+part-count-beside-end c = omega arith
+
+count-beside-requires : tie.Need-count-beside-requires Inv-loop μ-loop
+count-beside-requires c κs = (omega arith, omega arith)
 
 loop-less : tie.Need-loop-less Inv-loop μ-loop
 loop-less c = omega arith
@@ -92,8 +77,11 @@ loop-less c = omega arith
 loop-again : tie.Need-loop-again Inv-loop μ-loop
 loop-again c = omega arith
 
-returns-3 : tie.Need-returns-3 Inv-loop μ-loop
-returns-3 c = tt
+show-count-requires : tie.Need-show-count-requires Inv-loop μ-loop
+show-count-requires c κs = tt
+
+returns : tie.Need-returns Inv-loop μ-loop
+returns c = omega arith
 
 pub list-spec : {M : Type 1} → statement M
 list-spec =
@@ -102,30 +90,26 @@ list-spec =
     Inv-loop
     μ-loop
     loop-holds
-    add-i
-    slice-aggregate-write-all
-    write-all-requires
-    returns
-    mul-if2
-    mul-if2-2
-    shared-slice-read-if2
-    mul-show-no-start
-    add-show-no-start
-    mul-show-no-start-2
-    shared-slice-read-show-no-start
-    show-no-start-requires
-    returns-2
-    mul-show-event
-    show-event-requires
     mul-end-of
-    sub-end-of
     mul-end-of-2
     shared-slice-read-end-of
     mul-end-of-3
-    sub-end-of-2
+    add-end-of
     mul-end-of-4
     shared-slice-read-end-of-2
     end-of-requires
+    add-i
+    mul-show-event
+    sub-show-event
+    part-show-event-start
+    part-show-event-end
+    show-event-requires
+    mul-count-beside
+    sub-count-beside
+    part-count-beside-start
+    part-count-beside-end
+    count-beside-requires
     loop-less
     loop-again
-    returns-3)
+    show-count-requires
+    returns)

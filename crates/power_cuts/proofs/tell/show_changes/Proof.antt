@@ -10,6 +10,15 @@ Inv-loop log at place₀ place = Unit {0}
 abbrev μ-loop : tie.MeasureT-loop
 μ-loop log at place₀ place = 128 - place
 
+mul-if1 : tie.Need-mul-if1 Inv-loop μ-loop
+mul-if1 c = omega arith
+
+shared-slice-read-if1 : tie.Need-shared-slice-read-if1 Inv-loop μ-loop
+shared-slice-read-if1 c = omega arith
+
+returns : tie.Need-returns Inv-loop μ-loop
+returns c = tt
+
 loop-holds : tie.Need-loop-holds Inv-loop μ-loop
 loop-holds c = tt
 
@@ -25,17 +34,17 @@ mul-new c = omega arith
 shared-slice-read-new : tie.Need-shared-slice-read-new Inv-loop μ-loop
 shared-slice-read-new c = omega arith
 
-sub-if1 : tie.Need-sub-if1 Inv-loop μ-loop
-sub-if1 c = omega arith
+sub-if2 : tie.Need-sub-if2 Inv-loop μ-loop
+sub-if2 c = omega arith
 
-add-if1 : tie.Need-add-if1 Inv-loop μ-loop
-add-if1 c = omega arith
+add-if2 : tie.Need-add-if2 Inv-loop μ-loop
+add-if2 c = omega arith
 
-mul-if1 : tie.Need-mul-if1 Inv-loop μ-loop
-mul-if1 c = omega arith
+mul-if2 : tie.Need-mul-if2 Inv-loop μ-loop
+mul-if2 c = omega arith
 
-shared-slice-read-if1 : tie.Need-shared-slice-read-if1 Inv-loop μ-loop
-shared-slice-read-if1 c = omega arith
+shared-slice-read-if2 : tie.Need-shared-slice-read-if2 Inv-loop μ-loop
+shared-slice-read-if2 c = omega arith
 
 show-change-requires : tie.Need-show-change-requires Inv-loop μ-loop
 show-change-requires c κs = tt
@@ -49,8 +58,8 @@ loop-less c = omega arith
 loop-again : tie.Need-loop-again Inv-loop μ-loop
 loop-again c = tt
 
-returns : tie.Need-returns Inv-loop μ-loop
-returns c = tt
+returns-2 : tie.Need-returns-2 Inv-loop μ-loop
+returns-2 c = tt
 
 pub show-changes-spec : {M : Type 1} → statement M
 show-changes-spec =
@@ -58,17 +67,20 @@ show-changes-spec =
     (tie.spec
     Inv-loop
     μ-loop
+    mul-if1
+    shared-slice-read-if1
+    returns
     loop-holds
     add-new
     add-new-2
     mul-new
     shared-slice-read-new
-    sub-if1
-    add-if1
-    mul-if1
-    shared-slice-read-if1
+    sub-if2
+    add-if2
+    mul-if2
+    shared-slice-read-if2
     show-change-requires
     add-place
     loop-less
     loop-again
-    returns)
+    returns-2)

@@ -1,19 +1,19 @@
--- The list keeps its length, and what counts of it is within it.
+-- The list keeps its length, and what counts of it grows within it.
 use Prim.Native.Nat.{_-_, _≤_}
 use mathlib.Core.Path.{_≡_, refl}
 use native.Mathlib.Omega.{arith}
 use lib.ListN.{length}
-use Rattle.power_cuts.proofs.list.put_many.Statement.{statement}
-use Rattle.power_cuts.proofs.list.put_many.Tie as tie
+use Rattle.power_cuts.proofs.list.put_steps.Statement.{statement}
+use Rattle.power_cuts.proofs.list.put_steps.Tie as tie
 
 abbrev Inv-loop : tie.InvT-loop
-Inv-loop events₀ at times event lent n₀ i₀ events n i = (length events ≡ length events₀) × (n ≤ length events)
+Inv-loop events₀ at times n₀ i₀ events n i = (length events ≡ length events₀) × (at ≤ n) × (n ≤ length events)
 
 abbrev μ-loop : tie.MeasureT-loop
-μ-loop events₀ at times event lent n₀ i₀ events n i = times - i
+μ-loop events₀ at times n₀ i₀ events n i = times - i
 
 loop-holds : tie.Need-loop-holds Inv-loop μ-loop
-loop-holds c = (refl, omega arith)
+loop-holds c = (refl, omega arith, omega arith)
 
 put-requires : tie.Need-put-requires Inv-loop μ-loop
 put-requires c κs = omega arith
@@ -25,16 +25,16 @@ loop-less : tie.Need-loop-less Inv-loop μ-loop
 loop-less c = omega arith
 
 loop-again : tie.Need-loop-again Inv-loop μ-loop
-loop-again c = (omega arith, omega arith)
+loop-again c = (omega arith, omega arith, omega arith)
 
 same-length : tie.Need-same-length Inv-loop μ-loop
 same-length c = omega arith
 
 returns : tie.Need-returns Inv-loop μ-loop
-returns c = omega arith
+returns c = (omega arith, omega arith)
 
-pub put-many-spec : {M : Type 1} → statement M
-put-many-spec =
+pub put-steps-spec : {M : Type 1} → statement M
+put-steps-spec =
     tie.close
     (tie.spec
     Inv-loop
