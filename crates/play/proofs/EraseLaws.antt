@@ -10,7 +10,7 @@ use Rattle.calls.specs.Board.{Identity, begun, after}
 use Rattle.calls.specs.Lists.{Acceptance, run, identity, left, traceAfter}
 use Rattle.packets.specs.Packets.{BoardState}
 use Rattle.board.specs.BoardKind.{boardKind}
-use Rattle.board.specs.Demand3.{Events, expected, owed}
+use Rattle.board.specs.Demand3.{Events, Trace, expected, owed}
 use Rattle.board.specs.View.{stateOf, answerOf, gave, Result, result}
 use Rattle.board.specs.declared.board.Answer.{Answer}
 use Rattle.board.specs.declared.board.Done.{Done}
@@ -35,17 +35,24 @@ module _ (a : Acceptance boardKind) where
   size : length (after (left boardKind a) (a .store)) ≡ 128
   size = rw (demand3 .accepted-store a) (length-set (a .store) 0 0xE7 ∙ demand3 .accepted-size a)
 
-  traced : (es : Events) → run boardKind (identity boardKind a) (left boardKind a .state) (after (left boardKind a) (a .store)) es
+  traced : (es : Events) → run boardKind (identity boardKind a) (left boardKind a .state) (set (a .store) 0 0xE7) es
       ≡ expected (identity boardKind a) (owed a) 0 (set (a .store) 0 0xE7) es
   unfolding traceAfter
-  traced es = demand3 .traced a es
+  traced es = rw (demand3 .accepted-store a) at (demand3 .traced a es)
 
-  played-after : (i : Identity) (u : BoardState) (m₁ m′ es lent lent′ log log′ : List ℕ) → u ≡ left boardKind a .state
-      → m₁ ≡ after (left boardKind a) (a .store) → i ≡ identity boardKind a
-      → Plays (run boardKind i u m₁ (eventsIn (length m₁) (length log) es lent)) m₁ m′ lent lent′ log log′
-      → Plays (expected i (owed a) 0 (set (a .store) 0 0xE7) (eventsIn 128 (length log) es lent)) (set (a .store) 0 0xE7) m′ lent lent′ log log′
-  played-after i u m₁ m′ es lent lent′ log log′ state store named p =
-      rw named (rw (named, state, store, size, traced, demand3 .accepted-store a) at p)
+  module _ (i : Identity) (m′ es lent lent′ log log′ : List ℕ) where
+    -- a trace of the events, on the store that the acceptance left
+    abbrev Leaves : Trace → Type 0
+    Leaves t = Plays t (set (a .store) 0 0xE7) m′ lent lent′ log log′
+
+    played-on : (u : BoardState) (m₁ : List ℕ) → u ≡ left boardKind a .state → m₁ ≡ after (left boardKind a) (a .store)
+        → Plays (run boardKind i u m₁ (eventsIn (length m₁) (length log) es lent)) m₁ m′ lent lent′ log log′
+        → Leaves (run boardKind i (left boardKind a .state) (set (a .store) 0 0xE7) (eventsIn 128 (length log) es lent))
+    played-on u m₁ state store p = rw (state, store, size, demand3 .accepted-store a) at p
+
+    as-expected : i ≡ identity boardKind a → Leaves (run boardKind i (left boardKind a .state) (set (a .store) 0 0xE7) (eventsIn 128 (length log) es lent))
+        → Leaves (expected i (owed a) 0 (set (a .store) 0 0xE7) (eventsIn 128 (length log) es lent))
+    as-expected named p = rw named (rw (named, traced) at p)
 
 module _ (d : Done) (b : ℕ) (s : BoardState) (m m₁ reply reply₁ : List ℕ) (given : gave d m₁ reply₁ ≡ result (outcome b s m reply) m) where
   stored : m₁ ≡ after (outcome b s m reply) m
@@ -68,8 +75,10 @@ module _ (d : Done) (b : ℕ) (s : BoardState) (m m₁ reply reply₁ : List ℕ
   erase-played i m′ es lent lent′ log log′ q p =
       let e : outcome b s m reply .answer ≡ begun = ap (λ (r : Result). r .answer) (sym given) ∙ ap answerOf q in
       let a = accepted b s m reply e in
+      let on = played-on a i m′ es lent lent′ log log′ (stateOf (d .board)) m₁ (ap (λ (r : Result). r .state) given) stored p in
       record {
         begins = e;
         untouched = ap (λ (r : Result). r .buffer) given ∙ demand3 .accepted-buffer a;
-        plays = λ named. played-after a i (stateOf (d .board)) m₁ m′ es lent lent′ log log′ (ap (λ (r : Result). r .state) given) stored named p;
+        played = on;
+        as-expected = λ named. as-expected a i m′ es lent lent′ log log′ named on;
       }

@@ -6,7 +6,7 @@ use Prim.Native.Nat.{ℕ}
 use lib.ListN.{length, set}
 use Rattle.calls.specs.Board.{Identity, begun, after}
 use Rattle.calls.specs.Calls.{onCall}
-use Rattle.calls.specs.Lists.{Acceptance}
+use Rattle.calls.specs.Lists.{run, Acceptance}
 use Rattle.packets.specs.Packets.{BoardState, BoardOutcome}
 use Rattle.board.specs.BoardKind.{byte, boardKind}
 use Rattle.board.specs.Demand3.{expected, owed}
@@ -20,11 +20,13 @@ outcome b s m reply = onCall boardKind (byte b) s m reply
 abbrev pub accepted : (b : ℕ) (s : BoardState) (m reply : List ℕ) → outcome b s m reply .answer ≡ begun → Acceptance boardKind
 accepted b s m reply e = record { given = byte b; state = s; store = m; lent = reply; accepts = e }
 
--- The byte began an erase: with the board's own identity, the events after it leave the store, the lent buffers and the log that demand 3 expects.
+-- The byte began an erase, and the events after it were played on the board and the store that it left. With the board's own identity, they leave the
+-- store, the lent buffers and the log that demand 3 expects.
 pub record PlaysErase (i : Identity) (b : ℕ) (s : BoardState) (m m′ reply reply′ es lent lent′ log log′ : List ℕ) : Type 0 where
   pub begins : outcome b s m reply .answer ≡ begun
   pub untouched : reply′ ≡ reply
-  pub plays : i ≡ s .ident
+  pub played : Plays (run boardKind i (outcome b s m reply .state) (set m 0 0xE7) (eventsIn 128 (length log) es lent)) (set m 0 0xE7) m′ lent lent′ log log′
+  pub as-expected : i ≡ s .ident
       → Plays (expected i (owed (accepted b s m reply begins)) 0 (set m 0 0xE7) (eventsIn 128 (length log) es lent)) (set m 0 0xE7) m′ lent lent′ log log′
 
 -- it did not: nothing is played

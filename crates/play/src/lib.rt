@@ -59,7 +59,7 @@ pub fn play(
     play_rest(first, id, serial, model, store, events, lent, log)
 }
 
-// Gives a board a byte, and where it begins an erase plays events after it; whether it did. This is demand 3 in one call: what is left is what the demand
+// Gives a board a byte, and where it begins an erase plays events after it; whether it did. With the board's own identity, what is left is what demand 3
 // expects of the events.
 pub fn play_erase(
     board: Board,

@@ -5,26 +5,29 @@ ghost use Prim.Native.Nat.{_+_, _*_, _≤_};
 ghost use lib.ListN.{length};
 use wire::digits;
 
-// Whether an erase begins, and how many bytes of the buffer were written.
-pub fn acceptance(begun: bool, buffer: &[u8]) -> u64 {
+// Whether an erase begins, and how many bytes of the byte's own buffer were written.
+pub fn acceptance(begun: bool, buffer: &[u8]) {
     if begun {
-        io::write_all(1, b"a board with a past begins an erase\n");
+        io::write_all(
+            1,
+            b"a board with a past begins an erase; the mark that it stores shows in event 1\n",
+        );
     } else {
         io::write_all(1, b"no erase begins\n");
     }
-    count_from(0, buffer, 0)
+    show_count(count_from(0, buffer, 0));
 }
 
 // Both parts of a list, the second from `middle` on, and where the buffers of the first end in what is lent: at its size where the buffers
 // reach it, since then they may be cut.
-pub fn parts(events: &[u16], middle: usize, lent: &[u8], log: &[usize], beside: u64) -> usize
+pub fn parts(events: &[u16], middle: usize, lent: &[u8], log: &[usize]) -> usize
     requires { ⌜ (middle ≤ length (now events)) × (65 * length (now events) + 130 ≤ length (now log)) ⌝ }
     ensures { λ r. ⌜ r ≤ length (now (lent .entry)) ⌝ }
 {
     io::write_all(1, b"after an accepted erase, with two power cuts\n");
-    let from = list(events, 0, middle, lent, 0, log, beside);
+    let from = show_part(events, 0, middle, lent, 0, log);
     io::write_all(1, b"and from then on\n");
-    let end = list(events, middle, events.len(), lent, from, log, 0);
+    let end = show_part(events, middle, events.len(), lent, from, log);
     if end == lent.len() {
         io::write_all(1, b"the list does not fit the lent bytes\n");
         return end;
@@ -32,22 +35,20 @@ pub fn parts(events: &[u16], middle: usize, lent: &[u8], log: &[usize], beside: 
     from
 }
 
-// A line for each event of a part, waiting left out; then how many lent bytes were written though they are no reply's, with those counted
-// before. An entry of the log has the answer in two numbers and the store after it; the first entry has the store before the list. Where the
-// part's buffers end.
-fn list(
+// A line for each event of a part, waiting left out; then how many lent bytes were written though they are no reply's. An entry of the log has
+// the answer in two numbers and the store after it; the first entry has the store before the list. Where the part's buffers end.
+fn show_part(
     events: &[u16],
     first: usize,
     last: usize,
     lent: &[u8],
     start: usize,
     log: &[usize],
-    beside: u64,
 ) -> usize
     requires { ⌜ (last ≤ length (now events)) × (start ≤ length (now lent)) × (65 * last + 130 ≤ length (now log)) ⌝ }
     ensures { λ r. ⌜ r ≤ length (now (lent .entry)) ⌝ }
 {
-    let mut n = beside;
+    let mut n: u64 = 0;
     let mut from = start;
     let mut i = first / 2;
     while i < last / 2 {

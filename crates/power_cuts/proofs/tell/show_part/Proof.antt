@@ -2,14 +2,14 @@
 use Prim.Native.Nat.{_-_, _≤_}
 use native.Mathlib.Omega.{arith}
 use lib.ListN.{length}
-use Rattle.power_cuts.proofs.tell.list.Statement.{statement}
-use Rattle.power_cuts.proofs.tell.list.Tie as tie
+use Rattle.power_cuts.proofs.tell.show_part.Statement.{statement}
+use Rattle.power_cuts.proofs.tell.show_part.Tie as tie
 
 abbrev Inv-loop : tie.InvT-loop
-Inv-loop events first last lent start log beside n₀ from₀ i₀ n from i = from ≤ length lent
+Inv-loop events first last lent start log n₀ from₀ i₀ n from i = from ≤ length lent
 
 abbrev μ-loop : tie.MeasureT-loop
-μ-loop events first last lent start log beside n₀ from₀ i₀ n from i = last - i
+μ-loop events first last lent start log n₀ from₀ i₀ n from i = last - i
 
 loop-holds : tie.Need-loop-holds Inv-loop μ-loop
 loop-holds c = omega arith
@@ -83,8 +83,8 @@ show-count-requires c κs = tt
 returns : tie.Need-returns Inv-loop μ-loop
 returns c = omega arith
 
-pub list-spec : {M : Type 1} → statement M
-list-spec =
+pub show-part-spec : {M : Type 1} → statement M
+show-part-spec =
     tie.close
     (tie.spec
     Inv-loop
