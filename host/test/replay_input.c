@@ -1,5 +1,5 @@
-// Runs a program on an input that fails: a pseudo-terminal's master gives what was written to its other end, and when that end is closed a
-// read of it fails.
+// Runs a program on an input that fails: a pseudo-terminal's master gives what was written to its other end, and on Linux a read of it fails
+// once that end is closed.
 //   replay_input TEXT PROGRAM
 #define _XOPEN_SOURCE 600
 #include <fcntl.h>

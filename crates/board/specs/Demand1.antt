@@ -1,7 +1,8 @@
--- DEMAND 1 of this board (docs/RULES.md, 'Receiver', 'Calls', ST4, ST5 and ER5), its numbers written out.
+-- DEMAND 1 of this board (docs/RULES.md, 'Receiver', 'Calls', ST4, ST5, ER4 and ER5), its numbers written out; digits, the size L + 9 and the exclusive or
+-- are those of `wire`.
 -- Every byte, gap, erase step and start, on any board, store and lent buffer, is refused with the number of the first check that fails, and goes on
 -- where none does. A refusal leaves every stored byte, and so every setting, and the lent buffer; 1 and 9 to 13 change nothing at all; after 2 to
--- 8 nothing is held. A refused start gives no board: what it gives in code is refused by every call.
+-- 8 nothing is held. A refused start gives no board: what it gives in code is refused by every call. Sound boards stay sound.
 use mathlib.Core.Bool.{Bool, true, false, cond, not, _&&_, _||_}
 use mathlib.Core.List.{List, [], _∷_, _++_}
 use mathlib.Core.Logic.{_⊎_}
@@ -158,7 +159,7 @@ pub record Holds (s : BoardState) (bytes lent : List ℕ) (o : BoardOutcome) : T
 abbrev pub startedState : Identity → List ℕ → BoardState
 startedState i m = record { ident = i; held = []; erase = cond (eqb (getD m 0 0) 0xE7) (pending 1 false) idle }
 
--- the value that a refused start gives has ID 0: each call on it is refused, with 10 for a short buffer and else with 12
+-- the value that a refused start gives has ID 0: each call on it is refused, a byte or a step with 10 for a short buffer and else with 12
 abbrev pub noBoardState : BoardState
 noBoardState = record { ident = record { id = 0; serial = []; model = [] }; held = []; erase = idle }
 

@@ -1,6 +1,6 @@
 -- The worked examples P1 to P11 (docs/RULES.md, 'Worked examples') as one list: what the encoder writes, what a board in a named
 -- state replies and stores, and the unused bytes. ID 1, but for the Get sent to ID 8, whose check code is CR. Then a list of packets with their replies
--- for the rows of the message table that P1 to P11 leave out.
+-- for the rows of the message table that P1 to P11 leave out, and other answers of those that they have.
 use mathlib.Core.Bool.{true}
 use mathlib.Core.List.{List, [], _∷_, _++_}
 use mathlib.Core.Path.{_≡_}
@@ -168,7 +168,7 @@ examples =
     ∷ stores p11
     ∷ []
 
--- ---- the rows of the message table that these leave out
+-- ---- the rows of the message table that these leave out, and other answers
 
 -- the power status reply, standby
 abbrev pub standbyShown : List ℕ

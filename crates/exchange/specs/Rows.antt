@@ -110,7 +110,7 @@ isWithin at width k = leb at k && ltb k (at + width)
 
 -- ---- the settings
 
--- page, code, first bit and width of its field, max, and the values that a Set takes
+-- page, code, first bit and width of its field, max, and the values that a Set accepts
 pub record Setting : Type 0 where
   pub page : ℕ
   pub code : ℕ
@@ -194,7 +194,7 @@ dateIn m =
       daylight = 0;
     }
 
--- the dates that a date write takes
+-- the dates that a date write accepts
 abbrev pub takesDate : Date → Bool
 takesDate d =
     between 0 99 (d .year) && between 1 12 (d .month) && between 1 31 (d .day)
@@ -282,7 +282,7 @@ pub record Rows (i : Identity) (m : List ℕ) : Type 0 where
       (getReply 0 (t .page) (t .code) 0 (t .largest) (shownOf (t .page) (t .code) (getField m (t .at) (t .width))))
   pub get-unlisted : (page code : ℕ) → page < 256 → code < 256 → IsUnlisted page code → Shows i m (getParameter page code) (getReply 1 page code 0 0 0)
   pub get-erase : Shows i m (getParameter 0xF0 0x01) (getReply 0 0xF0 0x01 1 1 0)
-  -- Set: on, a value that is taken shows in the next Get and moves nothing else
+  -- Set: on, a value that is accepted shows in the next Get and moves nothing else
   pub set : (t : Setting) → List·Memᴰ t table → (v : ℕ) → IsOn m → t .takes v ≡ true
       → Changes i m (setParameter (t .page) (t .code) v) (setReply 0 (t .page) (t .code) 0 (t .largest) v) (isGetOf (t .page) (t .code))
       (isWithin (t .at) (t .width)) (λ m′. Shows i m′ (getParameter (t .page) (t .code)) (getReply 0 (t .page) (t .code) 0 (t .largest) (shownAfter (t .page) (t .code) v)))

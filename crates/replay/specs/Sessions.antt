@@ -36,12 +36,12 @@ goesOn s = isRead (s .next) && ltb (s .reads) largest
 abbrev pub countedOn : ℕ → ℕ → ℕ
 countedOn at more = min (at + more) largest
 
--- so many bytes were given to the board: where their lines could be written, each of them was counted
+-- so many bytes came: where their lines could be written, each of them was counted
 abbrev pub AreCounted : Told → ℕ → ℕ → Type 0
 AreCounted t before came = t .written ≡ true → t .at ≡ countedOn before came
 
--- A session after a read that gave such a number, into a buffer of such a size: the read is counted; and where the lines could be written, what comes
--- next is what the number says, and every byte that came was counted.
+-- A session after a read that gave such a number, into a buffer of such a size: the read is counted; and a write is reported as failed, or what comes next
+-- is what the number says and every byte that came was counted.
 pub record IsAfterRead (before : Session) (got : ℤ) (size : ℕ) (after : Session) : Type 0 where
   pub read : after .reads ≡ suc (before .reads)
   pub next : (after .next ≡ Next.WriteFailed) ⊎ ((after .next ≡ nextAfter got true) × (after .at ≡ countedOn (before .at) (clamped got size)))
