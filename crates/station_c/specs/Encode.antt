@@ -5,18 +5,48 @@ use mathlib.Core.Path.{_≡_}
 use Prim.Native.Nat.{ℕ}
 use lib.Dec.{eqb}
 use lib.ListN.{length}
-use Rattle.messages.specs.declared.message.Date.{Date}
-use Rattle.station.specs.Encode.{Encoding, sends, refused, bufferAs}
+use Rattle.messages.specs.Message.{Request}
+use Rattle.messages.specs.Message.Request.{getParameter, setParameter, powerRead, powerControl, dateRead, dateWrite, itemRead, tagWrite}
+use Rattle.messages.specs.declared.message.Item.{Item}
+use Rattle.station.specs.Encode.{Encoding, sends, refused, encoding, bufferAs}
 use Rattle.station.specs.declared.encode.Destination.{Destination}
 
 -- a destination as a number: 256, which is no byte, is ALL, and any other an ID
 unfoldable pub destinationOf : ℕ → Destination
 destinationOf n = cond (eqb n 256) Destination.All (Destination.Id n)
 
--- YY MM DD WW HH MN DS
-abbrev pub dateFrom : ℕ → ℕ → ℕ → ℕ → ℕ → ℕ → ℕ → Date
-dateFrom yy mm dd ww hh mn ds =
-    record { year = yy; month = mm; day = dd; weekday = ww; hour = hh; minute = mn; daylight = ds }
+-- the encoder's calls, with the arguments of each in the order of station.h
+pub data Call : Type 0 where
+  encodeGet : (page code : ℕ) → Call
+  encodeSet : (page code value : ℕ) → Call
+  encodePowerRead : Call
+  encodePowerControl : (mode : ℕ) → Call
+  encodeDateRead : Call
+  encodeDateWrite : (year month day weekday hour minute daylight : ℕ) → Call
+  encodeSerialRead : Call
+  encodeModelRead : Call
+  encodeTagRead : Call
+  encodeFormerTagRead : Call
+  encodeTagWrite : (tag : List ℕ) → Call
+
+-- the request that a call encodes
+abbrev pub requestFor : Call → Request
+requestFor (encodeGet page code) = getParameter page code
+requestFor (encodeSet page code value) = setParameter page code value
+requestFor encodePowerRead = powerRead
+requestFor (encodePowerControl mode) = powerControl mode
+requestFor encodeDateRead = dateRead
+requestFor (encodeDateWrite yy mm dd ww hh mn ds) =
+    dateWrite (record { year = yy; month = mm; day = dd; weekday = ww; hour = hh; minute = mn; daylight = ds })
+requestFor encodeSerialRead = itemRead Item.Serial
+requestFor encodeModelRead = itemRead Item.Model
+requestFor encodeTagRead = itemRead Item.Tag
+requestFor encodeFormerTagRead = itemRead Item.FormerTag
+requestFor (encodeTagWrite tag) = tagWrite tag
+
+-- what a call gives, with so much room in the lent buffer and a destination as a number
+abbrev pub encodingFor : ℕ → ℕ → Call → Encoding
+encodingFor room dest c = encoding room (destinationOf dest) (requestFor c)
 
 -- the result: 0, or the refusal
 abbrev pub encodingResult : Encoding → ℕ

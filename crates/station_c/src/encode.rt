@@ -1,12 +1,10 @@
 // The encoder for C: the result is 0 or the refusal, and the packet's length goes to a lent place. Refused, nothing is written.
 ghost use mathlib.Core.Path.{_≡_};
 ghost use lib.ListN.{length};
-ghost use Rattle.messages.specs.Message as message;
-ghost use Rattle.messages.specs.declared.message.Item.{Item};
 ghost use Rattle.messages.specs.View.{requestOf};
 ghost use Rattle.messages.specs.Inner.{requestCount, Beside};
 ghost use Rattle.station.specs.Encode.{encoding};
-ghost use Rattle.station_c.specs.Encode.{destinationOf, EncodesForC, dateFrom};
+ghost use Rattle.station_c.specs.Encode.{destinationOf, encodeGet, encodeSet, encodePowerRead, encodePowerControl, encodeDateRead, encodeDateWrite, encodeSerialRead, encodeModelRead, encodeTagRead, encodeFormerTagRead, encodeTagWrite, encodingFor, EncodesForC};
 ghost use Rattle.station_c.specs.Inner.{TellsOf};
 use messages::message::Date;
 use messages::message::Item;
@@ -23,7 +21,7 @@ pub extern "C" fn station_encode_get(
     out: &mut [u8],
     size: &mut usize,
 ) -> u8
-    ensures { λ r. ⌜ EncodesForC (encoding (length (now (out .entry))) (destinationOf dest) (message.getParameter page code)) r (now (out .entry)) (now (out .exit)) (now (size .entry)) (now (size .exit)) ⌝ }
+    ensures { λ r. ⌜ EncodesForC (encodingFor (length (now (out .entry))) dest (encodeGet page code)) r (now (out .entry)) (now (out .exit)) (now (size .entry)) (now (size .exit)) ⌝ }
 {
     export(dest, Request::Get { page, code }, b"", out, size)
 }
@@ -37,14 +35,14 @@ pub extern "C" fn station_encode_set(
     out: &mut [u8],
     size: &mut usize,
 ) -> u8
-    ensures { λ r. ⌜ EncodesForC (encoding (length (now (out .entry))) (destinationOf dest) (message.setParameter page code value)) r (now (out .entry)) (now (out .exit)) (now (size .entry)) (now (size .exit)) ⌝ }
+    ensures { λ r. ⌜ EncodesForC (encodingFor (length (now (out .entry))) dest (encodeSet page code value)) r (now (out .entry)) (now (out .exit)) (now (size .entry)) (now (size .exit)) ⌝ }
 {
     export(dest, Request::Set { page, code, value }, b"", out, size)
 }
 
 #[no_mangle]
 pub extern "C" fn station_encode_power_read(dest: u16, out: &mut [u8], size: &mut usize) -> u8
-    ensures { λ r. ⌜ EncodesForC (encoding (length (now (out .entry))) (destinationOf dest) message.powerRead) r (now (out .entry)) (now (out .exit)) (now (size .entry)) (now (size .exit)) ⌝ }
+    ensures { λ r. ⌜ EncodesForC (encodingFor (length (now (out .entry))) dest encodePowerRead) r (now (out .entry)) (now (out .exit)) (now (size .entry)) (now (size .exit)) ⌝ }
 {
     export(dest, Request::PowerRead, b"", out, size)
 }
@@ -56,14 +54,14 @@ pub extern "C" fn station_encode_power_control(
     out: &mut [u8],
     size: &mut usize,
 ) -> u8
-    ensures { λ r. ⌜ EncodesForC (encoding (length (now (out .entry))) (destinationOf dest) (message.powerControl mode)) r (now (out .entry)) (now (out .exit)) (now (size .entry)) (now (size .exit)) ⌝ }
+    ensures { λ r. ⌜ EncodesForC (encodingFor (length (now (out .entry))) dest (encodePowerControl mode)) r (now (out .entry)) (now (out .exit)) (now (size .entry)) (now (size .exit)) ⌝ }
 {
     export(dest, Request::PowerControl(mode), b"", out, size)
 }
 
 #[no_mangle]
 pub extern "C" fn station_encode_date_read(dest: u16, out: &mut [u8], size: &mut usize) -> u8
-    ensures { λ r. ⌜ EncodesForC (encoding (length (now (out .entry))) (destinationOf dest) message.dateRead) r (now (out .entry)) (now (out .exit)) (now (size .entry)) (now (size .exit)) ⌝ }
+    ensures { λ r. ⌜ EncodesForC (encodingFor (length (now (out .entry))) dest encodeDateRead) r (now (out .entry)) (now (out .exit)) (now (size .entry)) (now (size .exit)) ⌝ }
 {
     export(dest, Request::DateRead, b"", out, size)
 }
@@ -81,7 +79,7 @@ pub extern "C" fn station_encode_date_write(
     out: &mut [u8],
     size: &mut usize,
 ) -> u8
-    ensures { λ r. ⌜ EncodesForC (encoding (length (now (out .entry))) (destinationOf dest) (message.dateWrite (dateFrom year month day weekday hour minute daylight))) r (now (out .entry)) (now (out .exit)) (now (size .entry)) (now (size .exit)) ⌝ }
+    ensures { λ r. ⌜ EncodesForC (encodingFor (length (now (out .entry))) dest (encodeDateWrite year month day weekday hour minute daylight)) r (now (out .entry)) (now (out .exit)) (now (size .entry)) (now (size .exit)) ⌝ }
 {
     let date = Date {
         year,
@@ -97,28 +95,28 @@ pub extern "C" fn station_encode_date_write(
 
 #[no_mangle]
 pub extern "C" fn station_encode_serial_read(dest: u16, out: &mut [u8], size: &mut usize) -> u8
-    ensures { λ r. ⌜ EncodesForC (encoding (length (now (out .entry))) (destinationOf dest) (message.itemRead Item.Serial)) r (now (out .entry)) (now (out .exit)) (now (size .entry)) (now (size .exit)) ⌝ }
+    ensures { λ r. ⌜ EncodesForC (encodingFor (length (now (out .entry))) dest encodeSerialRead) r (now (out .entry)) (now (out .exit)) (now (size .entry)) (now (size .exit)) ⌝ }
 {
     export(dest, Request::ItemRead(Item::Serial), b"", out, size)
 }
 
 #[no_mangle]
 pub extern "C" fn station_encode_model_read(dest: u16, out: &mut [u8], size: &mut usize) -> u8
-    ensures { λ r. ⌜ EncodesForC (encoding (length (now (out .entry))) (destinationOf dest) (message.itemRead Item.Model)) r (now (out .entry)) (now (out .exit)) (now (size .entry)) (now (size .exit)) ⌝ }
+    ensures { λ r. ⌜ EncodesForC (encodingFor (length (now (out .entry))) dest encodeModelRead) r (now (out .entry)) (now (out .exit)) (now (size .entry)) (now (size .exit)) ⌝ }
 {
     export(dest, Request::ItemRead(Item::Model), b"", out, size)
 }
 
 #[no_mangle]
 pub extern "C" fn station_encode_tag_read(dest: u16, out: &mut [u8], size: &mut usize) -> u8
-    ensures { λ r. ⌜ EncodesForC (encoding (length (now (out .entry))) (destinationOf dest) (message.itemRead Item.Tag)) r (now (out .entry)) (now (out .exit)) (now (size .entry)) (now (size .exit)) ⌝ }
+    ensures { λ r. ⌜ EncodesForC (encodingFor (length (now (out .entry))) dest encodeTagRead) r (now (out .entry)) (now (out .exit)) (now (size .entry)) (now (size .exit)) ⌝ }
 {
     export(dest, Request::ItemRead(Item::Tag), b"", out, size)
 }
 
 #[no_mangle]
 pub extern "C" fn station_encode_former_tag_read(dest: u16, out: &mut [u8], size: &mut usize) -> u8
-    ensures { λ r. ⌜ EncodesForC (encoding (length (now (out .entry))) (destinationOf dest) (message.itemRead Item.FormerTag)) r (now (out .entry)) (now (out .exit)) (now (size .entry)) (now (size .exit)) ⌝ }
+    ensures { λ r. ⌜ EncodesForC (encodingFor (length (now (out .entry))) dest encodeFormerTagRead) r (now (out .entry)) (now (out .exit)) (now (size .entry)) (now (size .exit)) ⌝ }
 {
     export(dest, Request::ItemRead(Item::FormerTag), b"", out, size)
 }
@@ -130,7 +128,7 @@ pub extern "C" fn station_encode_tag_write(
     out: &mut [u8],
     size: &mut usize,
 ) -> u8
-    ensures { λ r. ⌜ EncodesForC (encoding (length (now (out .entry))) (destinationOf dest) (message.tagWrite (now (tag .entry)))) r (now (out .entry)) (now (out .exit)) (now (size .entry)) (now (size .exit)) ⌝ }
+    ensures { λ r. ⌜ EncodesForC (encodingFor (length (now (out .entry))) dest (encodeTagWrite (now (tag .entry)))) r (now (out .entry)) (now (out .exit)) (now (size .entry)) (now (size .exit)) ⌝ }
 {
     tell(encode::encode_tag_write(destination(dest), tag, out), size)
 }
