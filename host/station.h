@@ -31,6 +31,10 @@ extern "C" {
 #define STATION_NUMBERS_ROOM 9 /* numbers */
 #define STATION_BYTES_ROOM 16  /* bytes */
 
+/* A reply's first bytes tell its length once there are so many; no reply is longer than the most. */
+#define STATION_HEADER_BYTES 7
+#define STATION_REPLY_MOST 73
+
 /* Why a call is refused. Where several fit, the one that stands first here is given. */
 enum station_refusal {
     STATION_REFUSED_SHORT_BUFFER = 10,     /* a lent buffer has less than the least room */
@@ -112,8 +116,16 @@ uint8_t station_encode_former_tag_read(uint16_t dest, uint8_t *out, size_t out_l
 uint8_t station_encode_tag_write(uint16_t dest, const uint8_t *tag, size_t tag_len, uint8_t *out, size_t out_len, size_t *size);
 
 /*
- * The reader: takes one whole packet apart, with nothing around it. A packet ends where its length digits L say, after L + 9
- * bytes; a CR, 03h or 01h before that is a byte like others, for a check code may be one.
+ * Where a reply ends: how many bytes a packet has whose first bytes these are, 13 to STATION_REPLY_MOST. The length digits at
+ * first[5] and first[6] decide; a CR, 03h or 01h before that is a byte like others, for a check code may be one.
+ *
+ * 0 while there are fewer than STATION_HEADER_BYTES, and with more of them where the length digits are bad or outside 4 to 64:
+ * then nothing tells where the packet ends. No other byte is looked at, so a packet that is no reply has its length too.
+ */
+size_t station_reply_size(const uint8_t *first, size_t first_len);
+
+/*
+ * The reader: takes one whole packet apart, with nothing around it; station_reply_size tells where it ends.
  *
  *   packet, packet_len      the packet
  *   numbers, numbers_len    the place for the reply's numbers, of at least STATION_NUMBERS_ROOM

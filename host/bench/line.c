@@ -1,8 +1,4 @@
-/*
- * Requests and replies over a port.
- *
- * A packet ends where its length digits say. A CR, 03h or 01h before that is a byte like others: a check code may be one.
- */
+/* Requests and replies over a port; station.h tells where a reply ends. */
 #include "line.h"
 
 #include "deadline.h"
@@ -12,30 +8,12 @@
 
 enum {
     SOH = 0x01,
-    HEADER_LEN = 7,
     REST_MS = 120,   /* a board forgets half a packet after 100 ms of silence */
     NOISE_MS = 1000, /* a line that never rests is spoken to after this */
     SEND_MS = 2000   /* the time that sending a packet may take */
 };
 
 /* ---- what comes */
-
-static int digit_value(uint8_t digit)
-{
-    if (digit >= '0' && digit <= '9')
-        return digit - '0';
-    if (digit >= 'A' && digit <= 'F')
-        return digit - 'A' + 10;
-    return -1;
-}
-
-/* How many bytes a packet has, by its header's length digits; 0 where they are bad. */
-static size_t packet_size(const struct packet *packet)
-{
-    int high = digit_value(packet->bytes[5]), low = digit_value(packet->bytes[6]), length = 16 * high + low;
-
-    return high < 0 || low < 0 || length < 4 || length > 64 ? 0 : (size_t)length + 9;
-}
 
 /* Bytes that no packet begins with. */
 struct stray {
@@ -84,7 +62,7 @@ static enum heard receive(struct line *line, struct packet *packet, long long be
 
     packet->len = 0;
     for (;;) {
-        bool is_bad = packet->len >= HEADER_LEN && packet_size(packet) == 0;
+        bool is_bad = packet->len >= STATION_HEADER_BYTES && station_reply_size(packet->bytes, packet->len) == 0;
 
         heard = patient_byte(line, &b, began, is_bad ? now_ms() + REST_MS : until);
         if (heard != HEARD_BYTE)
@@ -98,7 +76,7 @@ static enum heard receive(struct line *line, struct packet *packet, long long be
         }
         flush_stray(line, &stray);
         packet->bytes[packet->len++] = b;
-        if (packet->len == PACKET_MAX || (packet->len >= HEADER_LEN && packet->len == packet_size(packet)))
+        if (packet->len == sizeof packet->bytes || packet->len == station_reply_size(packet->bytes, packet->len))
             break;
     }
     flush_stray(line, &stray);

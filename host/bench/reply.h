@@ -8,11 +8,8 @@
 #include <stddef.h>
 #include <stdint.h>
 
-/* The longest packet: 64 bytes from STX to ETX and 9 around them. */
-#define PACKET_MAX 73
-
 struct packet {
-    uint8_t bytes[PACKET_MAX];
+    uint8_t bytes[STATION_REPLY_MOST];
     size_t len;
 };
 

@@ -10,6 +10,7 @@
 
 #include <signal.h>
 #include <stdarg.h>
+#include <stdbool.h>
 #include <stdio.h>
 #include <stdlib.h>
 #include <string.h>
@@ -563,6 +564,45 @@ static void test_null_packet(void)
     CHECK(is_untouched(NUMBERS) && is_untouched(BYTES) && is_untouched(LENGTH), "null packet: refused, but something written");
 }
 
+/* What the first bytes tell of a packet's length, at a guarded page. */
+static size_t size_told(const struct packet *p, size_t first_len)
+{
+    return station_reply_size(lend_copy(PACKET, p->bytes, first_len), first_len);
+}
+
+/* Every reply: 0 up to its sixth byte, its length from the seventh on, and the same with any bytes behind it. */
+static void test_reply_sizes(void)
+{
+    for (size_t i = 0; i < COUNT(every_reply); i++) {
+        struct packet p = reply_of(every_reply[i].type, every_reply[i].text);
+
+        for (size_t n = 0; n <= LONGEST; n++) {
+            size_t told = size_told(&p, n);
+
+            CHECK(told == (n < STATION_HEADER_BYTES ? 0 : p.size), "%s: %zu bytes told by its first %zu", every_reply[i].text, told, n);
+        }
+    }
+    CHECK(station_reply_size(NULL, 0) == 0, "a length told by no bytes");
+}
+
+/* All 65536 pairs of length digits, in a header of which no other byte is good. */
+static void test_sizes_by_digits(void)
+{
+    struct packet p = {0};
+
+    for (unsigned pair = 0; pair < 0x10000; pair++) {
+        char digits[3] = {(char)(pair >> 8), (char)pair, '\0'};
+        bool good = strspn(digits, "0123456789ABCDEF") == 2;
+        unsigned long l = good ? strtoul(digits, NULL, 16) : 0;
+        size_t told;
+
+        memcpy(p.bytes + 5, digits, 2);
+        told = size_told(&p, STATION_HEADER_BYTES);
+        CHECK(told == (l >= 4 && l <= 64 ? l + 9 : 0), "length digits %02X %02X: %zu told", pair >> 8, pair & 0xFF, told);
+        CHECK(told <= STATION_REPLY_MOST, "length digits %02X %02X: %zu told", pair >> 8, pair & 0xFF, told);
+    }
+}
+
 /* 30: the first 0 to 12 bytes of every reply; 32: its first 13 and more. */
 static void test_cut_packets(void)
 {
@@ -766,6 +806,8 @@ static void test_all(void)
     RUN(test_every_reply);
     RUN(test_short_rooms);
     RUN(test_null_packet);
+    RUN(test_reply_sizes);
+    RUN(test_sizes_by_digits);
     RUN(test_cut_packets);
     RUN(test_changed_bytes);
     RUN(test_order_of_refusals);

@@ -41,6 +41,11 @@ isReplyHeader p =
 unfoldable pub isWholeLength : List ℕ → Bool
 isWholeLength p = isLength p && eqb (size p) (length p)
 
+-- How many bytes a packet has whose first bytes these are, by its length digits; 0 while fewer than seven are there, and where the digits are bad. No
+-- other byte tells where a packet ends.
+unfoldable pub replySize : List ℕ → ℕ
+replySize first = cond (ltb (length first) 7) 0 (cond (isLength first) (size first) 0)
+
 -- the reply in the message of a packet; none where STX or ETX is missing
 unfoldable pub replyInMessage : List ℕ → Option Reply
 replyInMessage p = cond (isMessage p) (replyIn (getD p 4 0) (packetText p)) none

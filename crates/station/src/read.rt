@@ -6,7 +6,7 @@ ghost use Rattle.wire.specs.Packet.{addressBase, leastPacket};
 ghost use Rattle.wire.specs.Judge.{verdict};
 ghost use Rattle.wire.specs.Inner.{Whole};
 ghost use Rattle.replies.specs.View.{orRefused};
-ghost use Rattle.station.specs.Read.{isReplyHeader, isReplyType, isWholeLength, sentBy, replyInMessage, replyVerdict, readPacket, packetReading};
+ghost use Rattle.station.specs.Read.{isReplyHeader, isReplyType, isWholeLength, replySize, sentBy, replyInMessage, replyVerdict, readPacket, packetReading};
 use replies::read;
 use replies::read::ReplyOrRefusal;
 use wire::packet;
@@ -33,6 +33,19 @@ pub fn read_packet(p: &[u8]) -> PacketReading
         return refused(refusal);
     }
     read_message(p)
+}
+
+// How many bytes a packet has whose first bytes these are; 0 where that can't be told.
+pub fn reply_size(first: &[u8]) -> usize
+    ensures { λ r. ⌜ r ≡ replySize (now (first .entry)) ⌝ }
+{
+    if first.len() < 7 {
+        return 0;
+    }
+    if !packet::is_length(first) {
+        return 0;
+    }
+    packet::size(first)
 }
 
 // The reply in a whole packet of a monitor.

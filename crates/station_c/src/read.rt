@@ -5,6 +5,7 @@ ghost use Prim.Native.Nat.{_≤_};
 ghost use lib.ListN.{length, take};
 ghost use Rattle.wire.specs.Packet.{over};
 ghost use Rattle.messages.specs.View.{statusNumber, dateAnswerOf};
+ghost use Rattle.station.specs.Read.{replySize};
 ghost use Rattle.station_c.specs.Read.{readInto, ReadsForC, replyKind, itemKind, numbersOf, dateNumbers};
 ghost use Rattle.station_c.specs.Inner.{Lists, PutsItem, listing};
 use messages::message::Date;
@@ -55,6 +56,14 @@ pub extern "C" fn station_read(
             return list.kind;
         }
     }
+}
+
+// How many bytes a packet has whose first bytes these are; 0 where that can't be told.
+#[no_mangle]
+pub extern "C" fn station_reply_size(first: &[u8]) -> usize
+    ensures { λ r. ⌜ r ≡ replySize (now (first .entry)) ⌝ }
+{
+    read::reply_size(first)
 }
 
 // A reply from a sender as a list of numbers.
