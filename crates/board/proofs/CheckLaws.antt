@@ -25,9 +25,8 @@ use Rattle.actions.specs.Act.{Effect, replies, begins, effect}
 use Rattle.packets.specs.Packets.{BoardState, BoardOutcome, answers, isIdentity, own, all, another, addressee, toOwn, toAll, onPacketTo, onPacket}
 use Rattle.board.specs.BoardKind.{byte, gap, lastAnswer, onReceipt, startOther, boardKind}
 use Rattle.board.specs.BoardKind as board
+use Rattle.wire.specs.Checks.{Check, firstFailed}
 use Rattle.board.specs.Demand1.{
-  Check,
-  firstFailed,
   refusalIn,
   startRefusalIn,
   isType,

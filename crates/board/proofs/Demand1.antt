@@ -18,7 +18,8 @@ use Rattle.actions.specs.Act.{Effect, replies, begins, effect}
 use Rattle.packets.specs.Packets.{BoardState, BoardOutcome, Addressee, own, all, another, addressee, toOwn, toAll, onPacketTo, onPacket}
 use Rattle.board.specs.BoardKind.{Call, byte, gap, boardKind}
 use Rattle.board.specs.BoardKind as board
-use Rattle.board.specs.Demand1.{firstFailed, isWhole, isSoundBoard, byteChecks, gapChecks, Untouched, Unchanged, Holds, noBoardState, noBoardRefusal, Demand1}
+use Rattle.board.specs.Demand1.{isWhole, isSoundBoard, byteChecks, gapChecks, Untouched, Unchanged, Holds, noBoardState, noBoardRefusal, Demand1}
+use Rattle.wire.specs.Checks.{firstFailed}
 use Rattle.board.proofs.BoardLaws.{board-laws}
 use Rattle.board.proofs.RefusalLaws.{Refused, unchanged, emptied, call-refused, step-refused}
 use Rattle.board.proofs.StartLaws.{no-id, unnamed-call-refused, unnamed-step-refused, SoundlyStarted, started-sound}

@@ -14,6 +14,7 @@ use lib.ListN.{length, getD, take, drop}
 use Rattle.bitfield.specs.Field.{getField}
 use Rattle.wire.specs.Digits.{twoAt}
 use Rattle.wire.specs.Packet.{xorOf, size}
+use Rattle.wire.specs.Checks.{Check, firstFailed}
 use Rattle.plan.specs.Stores.{Entry, applied}
 use Rattle.calls.specs.Board.{Identity, Answer, waiting, silent, begun, more, ended, refused, reply, Erase, idle, pending, isPending, Started, board, startRefused, after}
 use Rattle.calls.specs.Calls.{same, onCall, onStep, onStart}
@@ -23,16 +24,7 @@ use Rattle.board.specs.Demand3.{unusedBytes}
 use Rattle.board.specs.View.{stateOf}
 use Rattle.board.specs.Values.{startLeaves}
 
--- ---- checks
-
--- whether a check fails, and the number that a call is then refused with
-abbrev pub Check : Type 0
-Check = Bool × ℕ
-
--- the number of the first check that fails
-unfoldable pub firstFailed : List Check → Option ℕ
-firstFailed [] = none
-firstFailed ((fails, n) ∷ cs) = cond fails (some n) (firstFailed cs)
+-- ---- refusals
 
 -- the number that an answer, or a start, refuses with
 abbrev pub refusalIn : Answer ℕ → Option ℕ
