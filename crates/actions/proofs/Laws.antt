@@ -2,17 +2,15 @@
 use mathlib.Core.Path.{_≡_, refl, sym, ap, _∙_, subst}
 use mathlib.Core.Bool.{true}
 use mathlib.Core.List.{List, [], _∷_}
-use Prim.Native.Nat.{ℕ, _≤_, _<_, min}
+use Prim.Native.Nat.{ℕ, _≤_}
 use native.Mathlib.Omega.{arith}
-use native.Mathlib.Decide.{decLt}
 use lib.Dec.{leb}
-use lib.ListN.{length, take}
-use lib.Seq.{take-append-le, take-all}
+use lib.ListN.{length}
+use lib.Seq.{take-append-le}
 use borrow.Author.Tests.{leb-true}
 use Rattle.plan.specs.Stores.{Entry}
 use Rattle.plan.specs.Plans.{storesOf}
-use Rattle.messages.specs.View.{replyOf}
-use Rattle.messages.specs.Inner.{replyCount}
+use Rattle.messages.specs.View.{replyOf, replyCount}
 use Rattle.messages.specs.declared.message.Reply.{Reply}
 use Rattle.store.specs.Fields.{Field, read}
 use Rattle.store.specs.Layout.{tagLength, formerLength}
@@ -54,14 +52,6 @@ decides-reply d r es q p e = record { effect = rw (q, p, no-bytes r (d .bytes) [
 
 pub seen-whole : (t : ItemBytes) → length (t .bytes) ≡ 16 → t .count ≤ 16 → identityBytes t ≡ itemBytes t
 seen-whole t l h = take-append-le (t .count) (t .bytes) (0 ∷ []) (omega arith)
-
--- a count past 16 bytes takes all of them
-pub take-min : (n : ℕ) (s : List ℕ) → length s ≡ 16 → take (min n 16) s ≡ take n s
-take-min n s l = go (decLt n 16)
-  where
-    go : Dec (n < 16) → take (min n 16) s ≡ take n s
-    go (yes x) = let e : min n 16 ≡ n = omega arith in rw e
-    go (no x) = take-all (min n 16) s (omega arith) ∙ sym (take-all n s (omega arith))
 
 -- in a store that is in range a field holds at most what it may
 field-at-most : (m : List ℕ) (f : Field) → StoreInRange m → isField f ≡ true → read m f ≤ f .most

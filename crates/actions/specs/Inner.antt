@@ -6,8 +6,7 @@ use Prim.Native.Nat.{ℕ, _≤_}
 use lib.ListN.{length}
 use Rattle.plan.specs.Stores.{Entry}
 use Rattle.plan.specs.Plans.{storesOf}
-use Rattle.messages.specs.View.{replyOf}
-use Rattle.messages.specs.Inner.{replyCount}
+use Rattle.messages.specs.View.{replyOf, replyCount}
 use Rattle.store.specs.Layout.{fieldsInRange}
 use Rattle.actions.specs.Act as act
 use Rattle.actions.specs.declared.Effect.{Effect}

@@ -3,13 +3,12 @@ ghost use mathlib.Core.Bool.{cond};
 ghost use mathlib.Core.List.{[]};
 ghost use mathlib.Core.Option.{some};
 ghost use mathlib.Core.Path.{_≡_};
-ghost use Prim.Native.Nat.{_≤_, min};
+ghost use Prim.Native.Nat.{_≤_};
 ghost use lib.Dec.{eqb};
 ghost use lib.ListN.{take};
 ghost use Rattle.plan.specs.Plans.{storesOf};
-ghost use Rattle.messages.specs.View.{requestOf, replyOf};
-ghost use Rattle.messages.specs.Inner.{replyCount};
-ghost use Rattle.parser.specs.View.{parsed};
+ghost use Rattle.messages.specs.View.{requestOf, replyOf, requestCount, replyCount};
+ghost use Rattle.parser.specs.View.{parsed, parsedCount};
 ghost use Rattle.actions.specs.Act.{effectOf, effect, getListed, getEffect, setListed, setEffect, powerReadEffect, powerControlEffect, dateWriteEffect, isErase, itemOf, says, replies, begins};
 ghost use Rattle.store.specs.Settings.{settingAt, Listed};
 ghost use Rattle.store.specs.Contents.{tagStores, itemBytes};
@@ -60,7 +59,7 @@ pub fn decide(
     store: &[u8],
 ) -> Decision
     requires { ⌜ StoreInRange (now store) ⌝ }
-    requires { ⌜ (serial .count ≤ 16) × (model .count ≤ 16) ⌝ }
+    requires { ⌜ (serial .count ≤ 16) × (model .count ≤ 16) × (parsedCount (asked .parsed) ≤ 16) ⌝ }
     ensures { λ r. ⌜ Decides r (effect (identityOf id serial model) (now (store .entry)) (parsed asked)) ⌝ }
 {
     let parsed = asked.parsed;
@@ -81,7 +80,7 @@ fn decide_request(
     store: &[u8],
 ) -> Decision
     requires { ⌜ StoreInRange (now store) ⌝ }
-    requires { ⌜ (serial .count ≤ 16) × (model .count ≤ 16) ⌝ }
+    requires { ⌜ (serial .count ≤ 16) × (model .count ≤ 16) × (requestCount request ≤ 16) ⌝ }
     ensures { λ r. ⌜ Decides r (effectOf (identityOf id serial model) (now (store .entry)) (requestOf request bytes)) ⌝ }
 {
     match request {
@@ -290,27 +289,16 @@ fn item_reply(item: Item, held: ItemBytes) -> Decision
 
 // A tag write.
 fn tag_write(bytes: [u8; 16], count: u8, store: &[u8]) -> Decision
-    requires { ⌜ StoreInRange (now store) ⌝ }
+    requires { ⌜ StoreInRange (now store) × (count ≤ 16) ⌝ }
     ensures { λ r. ⌜ Decides r (replies (tagWriteReply 0 (take count bytes)) (tagStores (now (store .entry)) (take count bytes))) ⌝ }
 {
-    let held = at_most_16(count);
-    let n = held as usize;
+    let n = count as usize;
     let plan = contents::tag_stores(store, &bytes[0..n]);
     Decision {
-        effect: Effect::Replies(Reply::TagWritten(Status::Acknowledged, held)),
+        effect: Effect::Replies(Reply::TagWritten(Status::Acknowledged, count)),
         plan,
         bytes,
     }
-}
-
-// A count past an array of 16 bytes counts the array.
-fn at_most_16(count: u8) -> u8
-    ensures { λ r. ⌜ r ≡ min count 16 ⌝ }
-{
-    if count < 16 {
-        return count;
-    }
-    16
 }
 
 fn is_erase(page: u8, code: u8) -> bool

@@ -6,7 +6,7 @@ use Prim.Native.Nat.{ℕ}
 use lib.ListN.{length}
 use lib.Seq.{take-at}
 use Rattle.wire.specs.Refusal.{changesNothing}
-use Rattle.store.specs.Contents.{padded}
+use Rattle.wire.specs.Digits.{padded}
 use Rattle.calls.specs.Board.{Identity}
 use Rattle.calls.specs.Calls.{refuse}
 use Rattle.packets.specs.Packets.{BoardState}

@@ -6,7 +6,7 @@ use lib.ListN.{length}
 use Rattle.wire.specs.Refusal.{changesNothing}
 use Rattle.receiver.specs.View.{emptyReceiver, emptied, withByte}
 use Rattle.receiver.specs.declared.Receiver.{Receiver}
-use Rattle.store.specs.Contents.{padded}
+use Rattle.wire.specs.Digits.{padded}
 use Rattle.store.specs.declared.contents.ItemBytes.{ItemBytes}
 use Rattle.calls.specs.Board as calls
 use Rattle.calls.specs.Calls.{onCall, onStep, onStart}

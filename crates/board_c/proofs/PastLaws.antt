@@ -14,9 +14,9 @@ use Rattle.calls.proofs.Kept.{unused-startable, rest-start}
 use Rattle.calls.proofs.Pending.{Pending, pending-start}
 use Rattle.packets.specs.Packets.{BoardState, BoardOutcome, isIdentity}
 use Rattle.packets.proofs.IdentityLaws.{named-told}
-use Rattle.store.specs.Contents.{padded}
+use Rattle.wire.specs.Digits.{padded}
 use Rattle.store.specs.Layout.{unusedStore}
-use Rattle.store.proofs.TagLaws.{padded-length}
+use Rattle.wire.proofs.DigitLaws.{padded-length}
 use Rattle.board.specs.BoardKind.{Call, byte, gap, boardKind}
 use Rattle.board.specs.Demand3.{Events}
 use Rattle.board.specs.View.{stateOf}

@@ -17,7 +17,8 @@ use Rattle.messages.specs.declared.message.Date.{Date}
 use Rattle.messages.specs.declared.message.Item.{Item}
 use Rattle.store.specs.Fields.{read, fieldStores}
 use Rattle.store.specs.Layout.{power, tagLength}
-use Rattle.store.specs.Contents.{isOn, dateOf, isStorable, isAccepted, withDate, dateStores, tagOf, formerTagOf, padded, tagStores}
+use Rattle.store.specs.Contents.{isOn, dateOf, isStorable, isAccepted, withDate, dateStores, tagOf, formerTagOf, tagStores}
+use Rattle.wire.specs.Digits.{padded}
 use Rattle.store.proofs.StoreLaws.{in-range-one, field-applied}
 use Rattle.store.proofs.SettingLaws.{power-moves}
 use Rattle.store.proofs.DateLaws.{storable-fits, date-keeps-field, date-keeps-byte, accepted-shown, date-applied}

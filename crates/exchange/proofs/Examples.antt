@@ -8,7 +8,7 @@ use native.Mathlib.Omega.{arith}
 use borrow.Author.Tests.{le-ltb}
 use lib.ListN.{length, set}
 use Rattle.bitfield.specs.Field.{getField, putField, setBit, withBit, bit, bitOf}
-use Rattle.wire.specs.Digits.{valueOf, twoAt, fourAt, octetsIn, unhex, hexOf}
+use Rattle.wire.specs.Digits.{valueOf, twoAt, fourAt, octetsIn, unhex, hexOf, padded}
 use Rattle.wire.specs.Packet.{zeroByte, over, xorFrom, packet, packetText, size, typeA, typeC, typeE}
 use Rattle.wire.specs.Judge.{isRequestType}
 use Rattle.wire.proofs.PacketLaws.{packet-length, text-packet}
@@ -28,7 +28,7 @@ use Rattle.calls.specs.Board.{Answer, silent, begun, reply}
 use Rattle.store.specs.Fields.{fieldStores}
 use Rattle.store.specs.Layout.{fieldsInRange, unusedStore}
 use Rattle.store.specs.Settings.{settingAt, current}
-use Rattle.store.specs.Contents.{isOn, dateOf, isAccepted, isStorable, dateStores, withDate, tagOf, formerTagOf, tagStores, padded, withLengths}
+use Rattle.store.specs.Contents.{isOn, dateOf, isAccepted, isStorable, dateStores, withDate, tagOf, formerTagOf, tagStores, withLengths}
 use Rattle.actions.specs.Act.{Effect, replies, begins, powerControlEffect, dateWriteEffect, getEffect, setEffect, powerReadEffect, effectOf, effect}
 use Rattle.packets.specs.Packets.{isIdentity, replyWith, replyFrom, addressee, toOwn, toAll, onPacketTo, onPacket, BoardOutcome}
 use Rattle.board.specs.BoardKind.{eraseReply, boardKind}

@@ -6,13 +6,13 @@ use native.Mathlib.Omega.{arith}
 use lib.ListN.{length, set, take, drop, replicate}
 use lib.Seq.{getD-drop}
 use Rattle.bitfield.proofs.Laws.{bytes-put}
-use Rattle.wire.specs.Digits.{Bytes}
+use Rattle.wire.specs.Digits.{Bytes, padded}
 use Rattle.messages.specs.declared.message.Date.{Date}
 use Rattle.plan.specs.Stores.{applied, rangeOf}
 use Rattle.plan.proofs.Laws.{applied-append}
 use Rattle.store.specs.Fields.{Field, read, write}
 use Rattle.store.specs.Layout.{tagLength, formerLength}
-use Rattle.store.specs.Contents.{padded, withLengths, withDate, tagStores}
+use Rattle.store.specs.Contents.{withLengths, withDate, tagStores}
 use Rattle.store.proofs.DateLaws.{date-by}
 use Rattle.exchange.proofs.ReplyLaws.{bytes-part}
 

@@ -1,7 +1,7 @@
 -- Messages (docs/RULES.md, 'What a good packet does'): the requests and replies of the message table as values.
 -- Results, statuses, operation types and modes are the rules' numbers; serial number, model and tags are lists of bytes.
 use mathlib.Core.Bool.{Bool, true, _||_}
-use mathlib.Core.List.{List}
+use mathlib.Core.List.{List, []}
 use mathlib.Core.Path.{_≡_}
 use Prim.Native.Nat.{ℕ, _≤_, _<_}
 use lib.Dec.{eqb}
@@ -30,6 +30,28 @@ pub data Reply : Type 0 where
   dateWriteReply : (status : ℕ) → Date → Reply
   itemReply : Item → List ℕ → Reply
   tagWriteReply : (status : ℕ) → List ℕ → Reply
+
+-- the bytes in a request, a tag's, and in a reply, those of a serial number, a model or a tag
+abbrev pub requestBytes : Request → List ℕ
+requestBytes (getParameter page code) = []
+requestBytes (setParameter page code value) = []
+requestBytes powerRead = []
+requestBytes (powerControl mode) = []
+requestBytes dateRead = []
+requestBytes (dateWrite d) = []
+requestBytes (itemRead i) = []
+requestBytes (tagWrite tag) = tag
+
+abbrev pub replyBytes : Reply → List ℕ
+replyBytes null = []
+replyBytes (getReply result page code operation largest value) = []
+replyBytes (setReply result page code operation largest value) = []
+replyBytes (powerReadReply status mode) = []
+replyBytes (powerControlReply status mode) = []
+replyBytes (dateReadReply d) = []
+replyBytes (dateWriteReply status d) = []
+replyBytes (itemReply i bytes) = bytes
+replyBytes (tagWriteReply status tag) = tag
 
 -- a power status reply shows mode 1, 2 or 4
 abbrev pub isPowerMode : ℕ → Bool

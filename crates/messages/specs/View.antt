@@ -46,3 +46,24 @@ replyOf (Reply.PowerControl o mode) bytes = message.powerControlReply (statusNum
 replyOf (Reply.Date a) bytes = dateAnswerOf a
 replyOf (Reply.Item i count) bytes = message.itemReply i (take count bytes)
 replyOf (Reply.TagWritten o count) bytes = message.tagWriteReply (statusNumber o) (take count bytes)
+
+-- how many bytes a request or a reply counts beside it
+abbrev pub requestCount : Request → ℕ
+requestCount (Request.Get page code) = 0
+requestCount (Request.Set page code value) = 0
+requestCount Request.PowerRead = 0
+requestCount (Request.PowerControl mode) = 0
+requestCount Request.DateRead = 0
+requestCount (Request.DateWrite d) = 0
+requestCount (Request.ItemRead i) = 0
+requestCount (Request.TagWrite count) = count
+
+abbrev pub replyCount : Reply → ℕ
+replyCount Reply.Null = 0
+replyCount (Reply.Got o p) = 0
+replyCount (Reply.Set o p) = 0
+replyCount (Reply.PowerStatus o m) = 0
+replyCount (Reply.PowerControl o mode) = 0
+replyCount (Reply.Date a) = 0
+replyCount (Reply.Item i count) = count
+replyCount (Reply.TagWritten o count) = count

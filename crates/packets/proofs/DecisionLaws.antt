@@ -11,8 +11,7 @@ use Rattle.plan.specs.declared.Plan.{Plan}
 use Rattle.wire.specs.Packet.{over, packetText}
 use Rattle.messages.specs.Read.{requestIn}
 use Rattle.messages.specs.Message as message
-use Rattle.messages.specs.View.{replyOf}
-use Rattle.messages.specs.Inner.{replyCount}
+use Rattle.messages.specs.View.{replyOf, replyCount}
 use Rattle.messages.specs.declared.message.Reply.{Reply}
 use Rattle.calls.specs.Board.{Identity}
 use Rattle.calls.specs.Calls.{eraseMark}

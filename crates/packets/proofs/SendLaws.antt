@@ -7,8 +7,7 @@ use lib.ListN.{length, take, length-take, length-append}
 use Rattle.wire.specs.Digits.{hexOf}
 use Rattle.wire.proofs.DigitLaws.{hex-length}
 use Rattle.messages.specs.Text.{dateText, parameterText, itemReplyName, replyText}
-use Rattle.messages.specs.View.{dateAnswerOf, replyOf}
-use Rattle.messages.specs.Inner.{replyCount}
+use Rattle.messages.specs.View.{dateAnswerOf, replyOf, replyCount}
 use Rattle.messages.proofs.SendLaws.{Short}
 use Rattle.messages.specs.declared.message.DateAnswer.{DateAnswer}
 use Rattle.messages.specs.declared.message.Reply.{Reply}

@@ -9,10 +9,9 @@ ghost use Rattle.plan.specs.Stores.{entry};
 ghost use Rattle.plan.specs.Plans.{storesOf};
 ghost use Rattle.calls.specs.Calls.{eraseMark};
 ghost use Rattle.packets.specs.declared.Acted.{Acted};
-ghost use Rattle.messages.specs.View.{replyOf};
-ghost use Rattle.messages.specs.Inner.{replyCount};
+ghost use Rattle.messages.specs.View.{replyOf, replyCount};
 ghost use Rattle.messages.specs.Read.{requestIn};
-ghost use Rattle.parser.specs.View.{parsed};
+ghost use Rattle.parser.specs.View.{parsed, parsedCount, Parses};
 ghost use Rattle.actions.specs.Act.{effect};
 ghost use Rattle.packets.specs.Packets.{replyWith, addressee, onPacket, toOwn, toAll};
 ghost use Rattle.actions.specs.View.{identityOf};
@@ -83,7 +82,7 @@ pub fn on_packet(
 // The request in a packet.
 fn asked_in(packet: &[u8]) -> ParsedRequest
     requires { ⌜ Whole (now packet) ⌝ }
-    ensures { λ r. ⌜ parsed r ≡ requestIn (getD (now (packet .entry)) 4 0) (packetText (now (packet .entry))) ⌝ }
+    ensures { λ r. ⌜ Parses r (requestIn (getD (now (packet .entry)) 4 0) (packetText (now (packet .entry)))) ⌝ }
 {
     let end = packet.len() - 3;
     parse::parse_request(packet[4], &packet[8..end])
@@ -111,7 +110,7 @@ fn for_own(
     store: &[u8],
     reply: &mut [u8],
 ) -> Planned
-    requires { ⌜ Addressed id serial model (now store) (now reply) ⌝ }
+    requires { ⌜ Addressed id serial model (now store) (now reply) × (parsedCount (asked .parsed) ≤ 16) ⌝ }
     ensures { λ r. ⌜ outcomeOf r (identityOf id serial model) (now (reply .exit)) ≡ toOwn (identityOf id serial model) (effect (identityOf id serial model) (now (store .entry)) (parsed asked)) (now (reply .entry)) ⌝ }
 {
     let decision = actions::decide(id, serial, model, asked, store);
@@ -135,7 +134,7 @@ fn for_all(
     asked: ParsedRequest,
     store: &[u8],
 ) -> Planned
-    requires { ⌜ Serving id serial model (now store) ⌝ }
+    requires { ⌜ Serving id serial model (now store) × (parsedCount (asked .parsed) ≤ 16) ⌝ }
     ensures { λ r. ⌜ outcomeOf r (identityOf id serial model) [] ≡ toAll (identityOf id serial model) (effect (identityOf id serial model) (now (store .entry)) (parsed asked)) [] ⌝ }
 {
     let decision = actions::decide(id, serial, model, asked, store);

@@ -3,13 +3,15 @@ ghost use mathlib.Core.List.{List};
 ghost use mathlib.Core.Option.{Option·map};
 ghost use mathlib.Core.Path.{_≡_};
 ghost use Prim.Native.Nat.{ℕ};
+ghost use lib.ListN.{replicate};
 ghost use Rattle.messages.specs.Message.Request.{dateWrite};
 ghost use Rattle.messages.specs.Read.{requestIn, commandIn, getIn, setIn, powerControlIn, valueCommandIn, dateIn};
-ghost use Rattle.parser.specs.View.{parsed, parsedWith};
+ghost use Rattle.parser.specs.View.{parsedWith, Parses};
 use messages::message::Item;
 use messages::message::Request;
 use text_fields::DateField;
 use wire::digits;
+use wire::digits::Count;
 use wire::digits::Octet;
 use wire::digits::Word;
 use wire::packet;
@@ -28,7 +30,7 @@ pub struct ParsedRequest {
 
 // The request in the text of a packet of a type.
 pub fn parse_request(kind: u8, text: &[u8]) -> ParsedRequest
-    ensures { λ r. ⌜ parsed r ≡ requestIn kind (now (text .entry)) ⌝ }
+    ensures { λ r. ⌜ Parses r (requestIn kind (now (text .entry))) ⌝ }
 {
     if kind == packet::TYPE_C {
         return without_bytes(parse_get(text));
@@ -43,20 +45,20 @@ pub fn parse_request(kind: u8, text: &[u8]) -> ParsedRequest
         return without_bytes(parse_command(text));
     }
     let tag = digits::octets_in(&text[4..]);
-    let good = tag.good;
-    if !good {
+    let counted = tag.count;
+    let Count::Value(count) = counted else {
         return without_bytes(Parsed::Other);
-    }
+    };
     let bytes = tag.bytes;
     ParsedRequest {
-        parsed: Parsed::Request(Request::TagWrite(tag.count)),
+        parsed: Parsed::Request(Request::TagWrite(count)),
         bytes,
     }
 }
 
 // A request that has no bytes beside it.
 fn without_bytes(parsed: Parsed) -> ParsedRequest
-    ensures { λ r. ⌜ r .parsed ≡ parsed ⌝ }
+    ensures { λ r. ⌜ r ≡ record { parsed = parsed; bytes = replicate 16 0 } ⌝ }
 {
     ParsedRequest {
         parsed,

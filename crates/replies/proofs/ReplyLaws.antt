@@ -1,30 +1,36 @@
 -- The ways of `Rattle.wire.proofs.Ways` where nothing found is refused with 35: each law takes one step through a definition, by what a
 -- test or a call on the way told. `search ways depth 20`, under `unfolding` of the definition, closes a `return`.
 use mathlib.Core.Bool.{Bool, true, false, cond, not}
-use mathlib.Core.List.{List}
-use mathlib.Core.Option.{Option, none, some, bind, Option·map}
-use mathlib.Core.Path.{_≡_}
-use Prim.Native.Nat.{ℕ, _-_}
+use mathlib.Core.List.{List, []}
+use mathlib.Core.Option.{Option, none, some, bind, Option·map, Option·none-ne-some}
+use mathlib.Core.Path.{_≡_, refl, sym, ap, _∙_}
+use Prim.Native.Nat.{ℕ, _-_, _≤_}
+use native.Mathlib.Omega.{arith}
 use borrow.Author.Tests.{not-true, not-false}
-use lib.ListN.{length, take, drop}
-use Rattle.wire.specs.Digits.{octet, word, octets, octetsIn}
+use lib.ListN.{length, take, drop, replicate, length-take}
+use lib.Seq.{take-nil, take-append-seam}
+use Rattle.wire.specs.Digits.{octet, word, octetsIn, counted, padded, bytesFound, FindsOctets}
+use Rattle.wire.specs.declared.digits.Count.{Count}
 use Rattle.wire.specs.declared.digits.Octet.{Octet}
 use Rattle.wire.specs.declared.digits.Word.{Word}
 use Rattle.wire.specs.declared.digits.Octets.{Octets}
 use Rattle.wire.specs.declared.refusal.Refusal.{Refusal}
 use Rattle.wire.proofs.Tests.{tests}
 use Rattle.messages.specs.Message as message
-use Rattle.messages.specs.View.{statusNumber, modeNumber}
+use Rattle.messages.specs.View.{statusNumber, modeNumber, replyOf, replyCount}
 use Rattle.messages.specs.Read.{beginsWith, dateIn}
 use Rattle.messages.specs.declared.message.Date.{Date}
+use Rattle.messages.specs.declared.message.DateAnswer.{DateAnswer}
+use Rattle.messages.specs.declared.message.Item.{Item}
 use Rattle.messages.specs.declared.message.PowerMode.{PowerMode}
+use Rattle.messages.specs.declared.message.Reply.{Reply}
 use Rattle.messages.specs.declared.message.Status.{Status}
 use Rattle.text_fields.specs.View.{foundStatus, foundMode, foundDate}
 use Rattle.text_fields.specs.declared.StatusField.{StatusField}
 use Rattle.text_fields.specs.declared.ModeField.{ModeField}
 use Rattle.text_fields.specs.declared.DateField.{DateField}
 use Rattle.text_fields.proofs.TextLaws.{part-rest}
-use Rattle.replies.specs.View.{TextReading, readingWith, textReading, orRefused}
+use Rattle.replies.specs.View.{TextReading, reply, refused, readingWith, orRefused, answerCount, bytesRead, ReadsText}
 use Rattle.replies.specs.declared.read.ReplyOrRefusal.{ReplyOrRefusal}
 use Rattle.replies.specs.declared.read.TextReading as declared
 
@@ -108,31 +114,101 @@ module _ (f : Date → message.Reply) (z : TextReading) (r : DateField) where
     pub no-date-behind : r ≡ DateField.Bad → z ≡ orRefused none → z ≡ orRefused (Option·map f (dateIn (drop n t)))
     no-date-behind e p = rw (← part-rest n t, ← is, e) p
 
-module _ (f : List ℕ → message.Reply) (z : TextReading) (r : Octets) where
-  module _ (o : Option (List ℕ)) (is : octets r ≡ o) where
-    pub octets-good : not (r .good) ≡ false → z ≡ orRefused (some (f (take (r .count) (r .bytes)))) → z ≡ orRefused (Option·map f o)
-    octets-good e p = rw (← is, not-false (r .good) e) p
+-- ---- bytes that a call found
 
-    pub octets-bad : not (r .good) ≡ true → z ≡ orRefused none → z ≡ orRefused (Option·map f o)
-    octets-bad e p = rw (← is, not-true (r .good) e) p
+-- the array's first n bytes are all that were found
+record Found (n : ℕ) (bytes : List ℕ) (o : Option (List ℕ)) : Type 0 where
+  whole : o ≡ some (take n bytes)
+  count : n ≡ length (take n bytes)
+  padding : bytes ≡ padded (take n bytes)
 
-  -- in the part behind the first n bytes
-  module _ (n : ℕ) (t : List ℕ) (is : octets r ≡ octetsIn (take (length t - n) (drop n t))) where
-    pub octets-behind : not (r .good) ≡ false → z ≡ orRefused (some (f (take (r .count) (r .bytes))))
-        → z ≡ orRefused (Option·map f (octetsIn (drop n t)))
-    octets-behind e p = rw (← part-rest n t, ← is, not-false (r .good) e) p
+padded-start : (s : List ℕ) → take (length s) (padded s) ≡ s
+unfolding padded
+padded-start s = take-append-seam s (drop (length s) (replicate 16 0))
 
-    pub no-octets-behind : not (r .good) ≡ true → z ≡ orRefused none → z ≡ orRefused (Option·map f (octetsIn (drop n t)))
-    no-octets-behind e p = rw (← part-rest n t, ← is, not-true (r .good) e) p
+found-bytes : (n : ℕ) (bytes : List ℕ) (o : Option (List ℕ)) → some n ≡ Option·map length o → bytes ≡ padded (bytesFound o) → Found n bytes o
+found-bytes n bytes none e b = absurd (Option·none-ne-some n (sym e))
+found-bytes n bytes (some s) e b =
+    let sized : n ≡ length s = cc in
+    let first : take n bytes ≡ s = rw (sized, b) (padded-start s) in
+    record { whole = rw first; count = rw first sized; padding = rw first b }
 
--- ---- an answer, whatever the bytes beside it are
+no-bytes : (o : Option (List ℕ)) → none ≡ Option·map length o → o ≡ none
+no-bytes none e = refl
+no-bytes (some s) e = absurd (Option·none-ne-some (length s) e)
 
-pub without-bytes : (a : ReplyOrRefusal) (o : Option message.Reply) → ((bytes : List ℕ) → readingWith a bytes ≡ orRefused o)
-    → (r : declared.TextReading) → r .answer ≡ a → textReading r ≡ orRefused o
-without-bytes a o is r e = rw e (is (r .bytes))
+module _ (r : Octets) (o : Option (List ℕ)) (is : FindsOctets r o) where
+  found : (n : ℕ) → r .count ≡ Count.Value n → Found n (r .bytes) o
+  found n e = found-bytes n (r .bytes) o (sym (ap counted e) ∙ is .count) (is .bytes)
 
-pub refusal : (r : declared.TextReading) → r .answer ≡ ReplyOrRefusal.Refused Refusal.ReplyMessage → textReading r ≡ orRefused none
-refusal r e = rw e
+  module _ (f : List ℕ → message.Reply) (z : TextReading) where
+    pub octets-value : (n : ℕ) → r .count ≡ Count.Value n → z ≡ orRefused (some (f (take n (r .bytes)))) → z ≡ orRefused (Option·map f o)
+    octets-value n e p = rw (found n e .whole) p
+
+    pub octets-bad : r .count ≡ Count.Bad → z ≡ orRefused none → z ≡ orRefused (Option·map f o)
+    octets-bad e p = rw (no-bytes o (sym (ap counted e) ∙ is .count)) p
+
+-- bytes found in the part behind the first n bytes
+pub finds-behind : (r : Octets) (n : ℕ) (t : List ℕ) → FindsOctets r (octetsIn (take (length t - n) (drop n t))) → FindsOctets r (octetsIn (drop n t))
+finds-behind r n t is = rw (← part-rest n t) is
+
+-- ---- an answer with its bytes
+
+-- the bytes in a reply are those that it counts
+pub reply-beside : (r : Reply) (bytes : List ℕ) → message.replyBytes (replyOf r bytes) ≡ take (replyCount r) bytes
+reply-beside Reply.Null bytes = refl
+reply-beside (Reply.Got o p) bytes = refl
+reply-beside (Reply.Set o p) bytes = refl
+reply-beside (Reply.PowerStatus o m) bytes = refl
+reply-beside (Reply.PowerControl o mode) bytes = refl
+reply-beside (Reply.Date (DateAnswer.Read d)) bytes = refl
+reply-beside (Reply.Date (DateAnswer.Written o d)) bytes = refl
+reply-beside (Reply.Item i count) bytes = refl
+reply-beside (Reply.TagWritten o count) bytes = refl
+
+answer-beside : (a : ReplyOrRefusal) (bytes : List ℕ) → bytesRead (readingWith a bytes) ≡ take (answerCount a) bytes
+answer-beside (ReplyOrRefusal.Reply r) bytes = reply-beside r bytes
+answer-beside (ReplyOrRefusal.Refused r) bytes = refl
+
+none-counted : (n : ℕ) (bytes : List ℕ) → 1 ≤ length bytes → take n bytes ≡ [] → n ≡ 0
+none-counted n bytes h e = let k = length-take n bytes in let none = ap length e in omega arith
+
+-- with any bytes the same reading: it counts none
+no-bytes-read : (a : ReplyOrRefusal) (o : Option message.Reply) → ((bytes : List ℕ) → readingWith a bytes ≡ orRefused o)
+    → ReadsText (record { answer = a; bytes = replicate 16 0 }) (orRefused o)
+unfolding padded
+no-bytes-read a o is =
+    let beside : (bytes : List ℕ) → bytesRead (orRefused o) ≡ take (answerCount a) bytes = λ bytes. rw (← is bytes) (answer-beside a bytes) in
+    let empty : bytesRead (orRefused o) ≡ [] = beside [] ∙ take-nil (answerCount a) in
+    record {
+      answer = is (replicate 16 0);
+      count = rw empty (none-counted (answerCount a) (replicate 16 0) (omega arith) (sym (beside (replicate 16 0)) ∙ empty));
+      bytes = rw empty;
+    }
+
+-- ---- a reading of the code, for what a definition gives
+
+module _ (w : Option message.Reply) (r : declared.TextReading) where
+  pub read-as : (o : Option message.Reply) → ReadsText r (orRefused o) → orRefused o ≡ orRefused w → ReadsText r (orRefused w)
+  read-as o p e = rw (← e) p
+
+  -- an answer, whatever the bytes beside it are
+  pub without-bytes : (a : ReplyOrRefusal) → r ≡ record { answer = a; bytes = replicate 16 0 } → ((bytes : List ℕ) → readingWith a bytes ≡ orRefused w)
+      → ReadsText r (orRefused w)
+  without-bytes a e is = rw e (no-bytes-read a w is)
+
+  pub refusal : r ≡ record { answer = ReplyOrRefusal.Refused Refusal.ReplyMessage; bytes = replicate 16 0 } → refused 35 ≡ orRefused w
+      → ReadsText r (orRefused w)
+  refusal e p = without-bytes (ReplyOrRefusal.Refused Refusal.ReplyMessage) e (λ bytes. p)
+
+module _ (w : Option message.Reply) (r : Octets) (o : Option (List ℕ)) (is : FindsOctets r o) (n : ℕ) (e : r .count ≡ Count.Value n) where
+  pub item-read : (i : Item) → reply (message.itemReply i (take n (r .bytes))) ≡ orRefused w
+      → ReadsText (record { answer = ReplyOrRefusal.Reply (Reply.Item i n); bytes = r .bytes }) (orRefused w)
+  item-read i p = let f = found r o is n e in rw (← p) (record { answer = refl; count = f .count; bytes = f .padding })
+
+  pub tag-read : (status : Status) → reply (message.tagWriteReply (statusNumber status) (take n (r .bytes))) ≡ orRefused w
+      → ReadsText (record { answer = ReplyOrRefusal.Reply (Reply.TagWritten status n); bytes = r .bytes }) (orRefused w)
+  tag-read status p = let f = found r o is n e in rw (← p) (record { answer = refl; count = f .count; bytes = f .padding })
 
 -- ---- the steps as lists
 

@@ -3,13 +3,13 @@ ghost use mathlib.Core.List.{List};
 ghost use mathlib.Core.Option.{Option·map};
 ghost use mathlib.Core.Path.{_≡_};
 ghost use Prim.Native.Nat.{ℕ};
-ghost use lib.ListN.{length};
+ghost use lib.ListN.{length, replicate};
 ghost use Rattle.wire.specs.Digits.{octetsIn};
 ghost use mathlib.Core.Bool.{cond};
 ghost use Rattle.messages.specs.Message.Reply.{getReply, setReply, dateReadReply, itemReply};
 ghost use Rattle.messages.specs.View.{statusNumber};
 ghost use Rattle.messages.specs.Read.{replyIn, commandReplyIn, plainReplyIn, valuesIn, parameterIn, powerReadReplyIn, powerControlReplyIn, dateWriteReplyIn, tagWriteReplyIn, dateIn};
-ghost use Rattle.replies.specs.View.{textReading, readingWith, orRefused};
+ghost use Rattle.replies.specs.View.{readingWith, orRefused, ReadsText};
 use messages::message::DateAnswer;
 use messages::message::Item;
 use messages::message::Parameter;
@@ -19,6 +19,7 @@ use text_fields::DateField;
 use text_fields::ModeField;
 use text_fields::StatusField;
 use wire::digits;
+use wire::digits::Count;
 use wire::digits::Octet;
 use wire::digits::Word;
 use wire::packet;
@@ -38,7 +39,7 @@ pub struct TextReading {
 
 // The reply in the text of a packet of a type.
 pub fn read_reply(kind: u8, text: &[u8]) -> TextReading
-    ensures { λ r. ⌜ textReading r ≡ orRefused (replyIn kind (now (text .entry))) ⌝ }
+    ensures { λ r. ⌜ ReadsText r (orRefused (replyIn kind (now (text .entry)))) ⌝ }
 {
     if kind == packet::TYPE_D {
         return without_bytes(read_parameter(false, text));
@@ -54,7 +55,7 @@ pub fn read_reply(kind: u8, text: &[u8]) -> TextReading
 
 // An answer that has no bytes beside it.
 fn without_bytes(answer: ReplyOrRefusal) -> TextReading
-    ensures { λ r. ⌜ r .answer ≡ answer ⌝ }
+    ensures { λ r. ⌜ r ≡ record { answer = answer; bytes = replicate 16 0 } ⌝ }
 {
     TextReading {
         answer,
@@ -110,7 +111,7 @@ fn read_values(set: bool, result: Status, page: u8, code: u8, text: &[u8]) -> Re
 
 // Type B.
 fn read_command_reply(text: &[u8]) -> TextReading
-    ensures { λ r. ⌜ textReading r ≡ orRefused (commandReplyIn (now (text .entry))) ⌝ }
+    ensures { λ r. ⌜ ReadsText r (orRefused (commandReplyIn (now (text .entry)))) ⌝ }
 {
     if text_fields::begins_with(b"C316", text) {
         return read_item_reply(Item::Serial, &text[4..]);
@@ -151,23 +152,23 @@ fn read_plain_reply(text: &[u8]) -> ReplyOrRefusal
 
 // The bytes behind the name of an item.
 fn read_item_reply(item: Item, text: &[u8]) -> TextReading
-    ensures { λ r. ⌜ textReading r ≡ orRefused (Option·map (itemReply item) (octetsIn (now (text .entry)))) ⌝ }
+    ensures { λ r. ⌜ ReadsText r (orRefused (Option·map (itemReply item) (octetsIn (now (text .entry))))) ⌝ }
 {
     let octets = digits::octets_in(text);
-    let good = octets.good;
-    if !good {
+    let counted = octets.count;
+    let Count::Value(count) = counted else {
         return without_bytes(ReplyOrRefusal::Refused(Refusal::ReplyMessage));
-    }
+    };
     let bytes = octets.bytes;
     TextReading {
-        answer: ReplyOrRefusal::Reply(Reply::Item(item, octets.count)),
+        answer: ReplyOrRefusal::Reply(Reply::Item(item, count)),
         bytes,
     }
 }
 
 // Status and tag behind F111.
 fn read_tag_write_reply(text: &[u8]) -> TextReading
-    ensures { λ r. ⌜ textReading r ≡ orRefused (tagWriteReplyIn (now (text .entry))) ⌝ }
+    ensures { λ r. ⌜ ReadsText r (orRefused (tagWriteReplyIn (now (text .entry)))) ⌝ }
 {
     if text.len() < 2 {
         return without_bytes(ReplyOrRefusal::Refused(Refusal::ReplyMessage));
@@ -176,13 +177,13 @@ fn read_tag_write_reply(text: &[u8]) -> TextReading
         return without_bytes(ReplyOrRefusal::Refused(Refusal::ReplyMessage));
     };
     let octets = digits::octets_in(&text[2..]);
-    let good = octets.good;
-    if !good {
+    let counted = octets.count;
+    let Count::Value(count) = counted else {
         return without_bytes(ReplyOrRefusal::Refused(Refusal::ReplyMessage));
-    }
+    };
     let bytes = octets.bytes;
     TextReading {
-        answer: ReplyOrRefusal::Reply(Reply::TagWritten(status, octets.count)),
+        answer: ReplyOrRefusal::Reply(Reply::TagWritten(status, count)),
         bytes,
     }
 }

@@ -19,8 +19,8 @@ use Rattle.wire.specs.declared.refusal.Refusal.{Refusal}
 use Rattle.wire.proofs.DigitLaws.{hex-length}
 use Rattle.messages.specs.Message as message
 use Rattle.messages.specs.Text.{dateText, requestType, requestText}
-use Rattle.messages.specs.View.{requestOf}
-use Rattle.messages.specs.Inner.{requestCount, Writes}
+use Rattle.messages.specs.View.{requestOf, requestCount}
+use Rattle.messages.specs.Inner.{Writes}
 use Rattle.messages.proofs.SendLaws.{Short, text-first}
 use Rattle.messages.specs.declared.message.Date.{Date}
 use Rattle.messages.specs.declared.message.Item.{Item}

@@ -1,16 +1,18 @@
 -- The reader (docs/RULES.md, 'Station', RD1): refusals 30 to 35 in this order, or the reply in one whole packet, with its sender.
 use mathlib.Core.Bool.{Bool, cond, not, _&&_, _||_}
-use mathlib.Core.List.{List}
+use mathlib.Core.List.{List, []}
 use mathlib.Core.Option.{Option, none}
+use mathlib.Core.Path.{_≡_}
 use Prim.Native.Nat.{ℕ, _-_}
 use lib.Dec.{ltb, leb, eqb}
 use lib.ListN.{length, getD}
+use Rattle.wire.specs.Digits.{padded}
 use Rattle.wire.specs.Packet.{soh, zeroByte, leastId, mostId, addressBase, addressOf, typeB, typeD, typeF, leastPacket, size, packetText}
 use Rattle.wire.specs.Judge.{Verdict, isLength, endsInReturn, hasCheckCode, isMessage}
 use Rattle.wire.specs.Judge as judge
-use Rattle.messages.specs.Message.{Reply}
+use Rattle.messages.specs.Message.{Reply, replyBytes}
 use Rattle.messages.specs.Read.{replyIn}
-use Rattle.replies.specs.View.{TextReading, readingWith, orRefused}
+use Rattle.replies.specs.View.{TextReading, readingWith, orRefused, answerCount}
 use Rattle.replies.specs.View as text
 use Rattle.station.specs.declared.read.PacketReading as declared
 
@@ -71,3 +73,18 @@ readPacket p = unlessRefused (replyVerdict p) (sentBy (getD p 3 0 - addressBase)
 
 abbrev pub packetReading : declared.PacketReading → PacketReading
 packetReading r = sentBy (r .sender) (readingWith (r .answer) (r .bytes))
+
+abbrev pub senderIn : PacketReading → ℕ
+senderIn (reply id r) = id
+senderIn (refused n) = 0
+
+abbrev pub bytesIn : PacketReading → List ℕ
+bytesIn (reply id r) = replyBytes r
+bytesIn (refused n) = []
+
+-- the answer and its sender; how many bytes are counted, and the bytes with zeros behind them: the reply's, or none. A refusal has sender 0.
+pub record ReadsPacket (r : declared.PacketReading) (wanted : PacketReading) : Type 0 where
+  pub answer : packetReading r ≡ wanted
+  pub sender : r .sender ≡ senderIn wanted
+  pub count : answerCount (r .answer) ≡ length (bytesIn wanted)
+  pub bytes : r .bytes ≡ padded (bytesIn wanted)

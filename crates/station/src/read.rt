@@ -5,8 +5,9 @@ ghost use lib.ListN.{length, getD};
 ghost use Rattle.wire.specs.Packet.{addressBase, leastPacket};
 ghost use Rattle.wire.specs.Judge.{verdict};
 ghost use Rattle.wire.specs.Inner.{Whole};
+ghost use Rattle.wire.specs.Refusal.{numberOf};
 ghost use Rattle.replies.specs.View.{orRefused};
-ghost use Rattle.station.specs.Read.{isReplyHeader, isReplyType, isWholeLength, replySize, sentBy, replyInMessage, replyVerdict, readPacket, packetReading};
+ghost use Rattle.station.specs.Read.{isReplyHeader, isReplyType, isWholeLength, replySize, sentBy, replyInMessage, replyVerdict, readPacket, refused, ReadsPacket};
 use replies::read;
 use replies::read::ReplyOrRefusal;
 use wire::packet;
@@ -27,7 +28,7 @@ pub struct PacketReading {
 
 // Reads one whole packet.
 pub fn read_packet(p: &[u8]) -> PacketReading
-    ensures { λ r. ⌜ packetReading r ≡ readPacket (now (p .entry)) ⌝ }
+    ensures { λ r. ⌜ ReadsPacket r (readPacket (now (p .entry))) ⌝ }
 {
     if let Judged::Refused(refusal) = judge_reply(p) {
         return refused(refusal);
@@ -51,7 +52,7 @@ pub fn reply_size(first: &[u8]) -> usize
 // The reply in a whole packet of a monitor.
 fn read_message(p: &[u8]) -> PacketReading
     requires { ⌜ Whole (now p) × (addressBase ≤ getD (now p) 3 0) ⌝ }
-    ensures { λ r. ⌜ packetReading r ≡ sentBy (getD (now (p .entry)) 3 0 - addressBase) (orRefused (replyInMessage (now (p .entry)))) ⌝ }
+    ensures { λ r. ⌜ ReadsPacket r (sentBy (getD (now (p .entry)) 3 0 - addressBase) (orRefused (replyInMessage (now (p .entry))))) ⌝ }
 {
     if !packet::is_message(p) {
         return refused(Refusal::ReplyMessage);
@@ -59,9 +60,12 @@ fn read_message(p: &[u8]) -> PacketReading
     let end = p.len() - 3;
     let found = read::read_reply(p[4], &p[8..end]);
     let answer = found.answer;
+    let ReplyOrRefusal::Reply(reply) = answer else {
+        return refused(Refusal::ReplyMessage);
+    };
     let bytes = found.bytes;
     PacketReading {
-        answer,
+        answer: ReplyOrRefusal::Reply(reply),
         sender: p[3] - packet::ADDRESS_BASE,
         bytes,
     }
@@ -69,7 +73,7 @@ fn read_message(p: &[u8]) -> PacketReading
 
 // A refusal has no sender and no bytes.
 fn refused(refusal: Refusal) -> PacketReading
-    ensures { λ r. ⌜ r .answer ≡ ReplyOrRefusal.Refused refusal ⌝ }
+    ensures { λ r. ⌜ ReadsPacket r (refused (numberOf refusal)) ⌝ }
 {
     PacketReading {
         answer: ReplyOrRefusal::Refused(refusal),

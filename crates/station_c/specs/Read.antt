@@ -6,7 +6,7 @@ use Prim.Native.Nat.{ℕ}
 use lib.Dec.{ltb}
 use lib.ListN.{length}
 use Rattle.wire.specs.Packet.{over}
-use Rattle.messages.specs.Message.{Reply}
+use Rattle.messages.specs.Message.{Reply, replyBytes}
 use Rattle.messages.specs.Message.Reply.{null, getReply, setReply, powerReadReply, powerControlReply, dateReadReply, dateWriteReply, itemReply, tagWriteReply}
 use Rattle.messages.specs.declared.message.Date.{Date}
 use Rattle.messages.specs.declared.message.Item.{Item}
@@ -46,18 +46,6 @@ numbersOf (dateWriteReply status d) = status ∷ dateNumbers d
 numbersOf (itemReply i bytes) = []
 numbersOf (tagWriteReply status tag) = status ∷ []
 
--- a reply's bytes: serial number, model or tag
-abbrev pub bytesIn : Reply → List ℕ
-bytesIn null = []
-bytesIn (getReply result page code operation largest value) = []
-bytesIn (setReply result page code operation largest value) = []
-bytesIn (powerReadReply status mode) = []
-bytesIn (powerControlReply status mode) = []
-bytesIn (dateReadReply d) = []
-bytesIn (dateWriteReply status d) = []
-bytesIn (itemReply i bytes) = bytes
-bytesIn (tagWriteReply status tag) = tag
-
 -- 10 where a lent slice has no room for the longest reply, 9 numbers or 16 bytes; then what the reader says
 unfoldable pub readInto : ℕ → ℕ → List ℕ → PacketReading
 readInto numbers bytes packet = cond (ltb numbers 9 || ltb bytes 16) (refused 10) (readPacket packet)
@@ -74,12 +62,12 @@ numbersAs (refused n) before = before
 
 -- the lent bytes: the reply's, the rest as it was
 abbrev pub bytesAs : PacketReading → List ℕ → List ℕ
-bytesAs (reply id r) before = over (bytesIn r) before
+bytesAs (reply id r) before = over (replyBytes r) before
 bytesAs (refused n) before = before
 
 -- the place for how many bytes there are
 abbrev pub countAs : PacketReading → ℕ → ℕ
-countAs (reply id r) before = length (bytesIn r)
+countAs (reply id r) before = length (replyBytes r)
 countAs (refused n) before = before
 
 -- the result, both lent slices and the place for the count

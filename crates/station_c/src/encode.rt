@@ -1,8 +1,8 @@
 // The encoder for C: the result is 0 or the refusal, and the packet's length goes to a lent place. Refused, nothing is written.
 ghost use mathlib.Core.Path.{_≡_};
 ghost use lib.ListN.{length};
-ghost use Rattle.messages.specs.View.{requestOf};
-ghost use Rattle.messages.specs.Inner.{requestCount, Beside};
+ghost use Rattle.messages.specs.View.{requestOf, requestCount};
+ghost use Rattle.messages.specs.Inner.{Beside};
 ghost use Rattle.station.specs.Encode.{encoding};
 ghost use Rattle.station_c.specs.Encode.{destinationOf, encodeGet, encodeSet, encodePowerRead, encodePowerControl, encodeDateRead, encodeDateWrite, encodeSerialRead, encodeModelRead, encodeTagRead, encodeFormerTagRead, encodeTagWrite, encodingFor, EncodesForC};
 ghost use Rattle.station_c.specs.Inner.{TellsOf};

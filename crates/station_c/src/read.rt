@@ -7,7 +7,7 @@ ghost use Rattle.wire.specs.Packet.{over};
 ghost use Rattle.messages.specs.View.{statusNumber, dateAnswerOf};
 ghost use Rattle.station.specs.Read.{replySize};
 ghost use Rattle.station_c.specs.Read.{readInto, ReadsForC, replyKind, itemKind, numbersOf, dateNumbers};
-ghost use Rattle.station_c.specs.Inner.{Lists, PutsItem, listing};
+ghost use Rattle.station_c.specs.Inner.{Lists, listing};
 use messages::message::Date;
 use messages::message::DateAnswer;
 use messages::message::Item;
@@ -52,7 +52,9 @@ pub extern "C" fn station_read(
             let item = reading.bytes;
             let all = list.numbers;
             put_numbers(numbers, &all, list.count);
-            *count = put_item(bytes, &item, list.beside);
+            let n = list.beside as usize;
+            digits::put_bytes(bytes, 0, &item[..n]);
+            *count = n;
             return list.kind;
         }
     }
@@ -215,14 +217,4 @@ fn put_numbers(out: &mut [u16], numbers: &[u16], count: usize)
         out[i] = numbers[i];
         i += 1;
     }
-}
-
-// Writes as many bytes as are counted, and there, at the start of a lent slice; how many.
-fn put_item(out: &mut [u8], item: &[u8], count: u8) -> usize
-    requires { ⌜ length (now item) ≤ length (now out) ⌝ }
-    ensures { λ r. ⌜ PutsItem count (now (item .entry)) r (now (out .entry)) (now (out .exit)) ⌝ }
-{
-    let n = digits::at_most(item, count as usize);
-    digits::put_bytes(out, 0, &item[..n]);
-    n
 }

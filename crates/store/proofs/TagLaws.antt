@@ -16,7 +16,9 @@ use Rattle.plan.specs.Inner.{Within}
 use Rattle.plan.proofs.Laws.{applied-append, applied-length, range-length, range-in, range-out, within-append, within-range}
 use Rattle.store.specs.Fields.{read, write, fits, bytesAround}
 use Rattle.store.specs.Layout.{tagLength, formerLength, fieldsInRange}
-use Rattle.store.specs.Contents.{tagOf, formerTagOf, padded, withLengths, tagStores}
+use Rattle.store.specs.Contents.{tagOf, formerTagOf, withLengths, tagStores}
+use Rattle.wire.specs.Digits.{padded}
+use Rattle.wire.proofs.DigitLaws.{padded-length}
 use Rattle.store.proofs.StoreLaws.{SpareKept, field-placed, apart-sym, in-range-one, in-range-write, read-bytes, in-range-same}
 
 -- the store u is m with the tag written: the tag and zeros, the old tag as the former one, both lengths, and all else as before
@@ -31,10 +33,6 @@ pub record TagWritten (m tag u : List ℕ) : Type 0 where
   pub outside : (j : ℕ) → (j < 10) ⊎ (44 ≤ j) → getD u j 0 ≡ getD m j 0
 
 -- ---- what is stored
-
-pub padded-length : (tag : List ℕ) → length tag ≤ 16 → length (padded tag) ≡ 16
-unfolding padded
-padded-length tag h = simp (length-append, length-drop) (omega arith)
 
 module _ (m tag : List ℕ) (size : length m ≡ 128) (short : length tag ≤ 16) where
   old-length : length (take 16 (drop 12 m)) ≡ 16

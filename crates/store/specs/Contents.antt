@@ -4,7 +4,8 @@ use mathlib.Core.Bool.{Bool, _&&_}
 use mathlib.Core.List.{List, _++_}
 use Prim.Native.Nat.{ℕ, _+_}
 use lib.Dec.{eqb}
-use lib.ListN.{length, take, drop, replicate}
+use lib.ListN.{length, take, drop}
+use Rattle.wire.specs.Digits.{padded}
 use Rattle.messages.specs.declared.message.Date.{Date}
 use Rattle.plan.specs.Stores.{Entry, rangeOf}
 use Rattle.store.specs.declared.contents.ItemBytes.{ItemBytes}
@@ -60,10 +61,6 @@ tagOf m = take (read m tagLength) (drop tagPlace m)
 
 unfoldable pub formerTagOf : List ℕ → List ℕ
 formerTagOf m = take (read m formerLength) (drop formerTagPlace m)
-
--- 16 bytes: a tag, and 00h past its length
-unfoldable pub padded : List ℕ → List ℕ
-padded tag = tag ++ drop (length tag) (replicate 16 0)
 
 -- the old length becomes the former length
 unfoldable pub withLengths : List ℕ → ℕ → List ℕ

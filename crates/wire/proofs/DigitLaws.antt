@@ -8,7 +8,7 @@ use native.Mathlib.Nat.{not-suc-le-zero, suc-mul, mul-le-mul-right}
 use native.Mathlib.Omega.{arith}
 use borrow.Author.Tests.{le-ltb, le-leb, lt-leb, ltb-true, ltb-false, leb-true, eqb-true, eqb-false}
 use lib.Dec.{ltb, leb, eqb}
-use lib.ListN.{length, getD, take, drop, drop-of-length-le, List·getD-append}
+use lib.ListN.{length, getD, take, drop, length-append, length-drop, drop-of-length-le, List·getD-append}
 use lib.Seq.{paste, take-paste, drop-paste, drop-drop, drop-cons, take-add, take-length, append-snoc}
 use Rattle.wire.specs.Digits.{
   Bytes,
@@ -22,6 +22,7 @@ use Rattle.wire.specs.Digits.{
   cons,
   unhex,
   octetsIn,
+  padded,
 }
 use Rattle.wire.proofs.Tests.{cond-by}
 
@@ -204,3 +205,9 @@ paste-more o at s i t h f e =
     let apart = sym (drop-drop (length t) (at + i) (paste o at s i)) in
     let rest = apart ∙ ap (drop (length t)) (drop-paste o at s i g f) ∙ drop-drop (length t) (at + i) o in
     rw (take-paste o at s i g f, take-length t, rest, place, take-add i (length t) s, e, append-assoc (take at o) (take i s) t)
+
+-- ---- an array of 16
+
+pub padded-length : (s : List ℕ) → length s ≤ 16 → length (padded s) ≡ 16
+unfolding padded
+padded-length s h = simp (length-append, length-drop) (omega arith)

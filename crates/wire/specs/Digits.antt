@@ -1,12 +1,14 @@
 -- Numbers on the wire (docs/RULES.md, 'Packets', PK3): hexadecimal digits 0-9 and A-F, capitals only, high digit first.
 use mathlib.Core.Bool.{cond}
-use mathlib.Core.List.{List, [], _∷_}
+use mathlib.Core.List.{List, [], _∷_, _++_}
 use mathlib.Core.Option.{Option, none, some, Option·map}
+use mathlib.Core.Path.{_≡_}
 use Prim.Native.Nat.{ℕ, _+_, _-_, _*_, _/_, _%_, _<_}
 use lib.Dec.{ltb, leb}
-use lib.ListN.{length, getD, take}
+use lib.ListN.{length, getD, drop, replicate}
 use Rattle.wire.specs.declared.digits.Octet.{Octet}
 use Rattle.wire.specs.declared.digits.Word.{Word}
+use Rattle.wire.specs.declared.digits.Count.{Count}
 use Rattle.wire.specs.declared.digits.Octets.{Octets}
 
 -- each element of a list is a byte
@@ -87,6 +89,19 @@ abbrev pub word : Word → Option ℕ
 word (Word.Value n) = some n
 word Word.Bad = none
 
--- the first bytes of the array, as many as are counted
-abbrev pub octets : Octets → Option (List ℕ)
-octets o = cond (o .good) (some (take (o .count) (o .bytes))) none
+abbrev pub counted : Count → Option ℕ
+counted (Count.Value n) = some n
+counted Count.Bad = none
+
+-- 16 bytes: those of a serial number, a model or a tag, and 00h behind them
+unfoldable pub padded : List ℕ → List ℕ
+padded s = s ++ drop (length s) (replicate 16 0)
+
+abbrev pub bytesFound : Option (List ℕ) → List ℕ
+bytesFound (some s) = s
+bytesFound none = []
+
+-- how many bytes are found, and the bytes; zeros alone where none are
+pub record FindsOctets (o : Octets) (found : Option (List ℕ)) : Type 0 where
+  pub count : counted (o .count) ≡ Option·map length found
+  pub bytes : o .bytes ≡ padded (bytesFound found)

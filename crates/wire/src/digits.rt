@@ -1,9 +1,10 @@
 // Hexadecimal digits, written and read.
+ghost use mathlib.Core.Option.{none};
 ghost use mathlib.Core.Path.{_≡_};
 ghost use Prim.Native.Nat.{_+_, _<_, _≤_};
 ghost use lib.ListN.{length, take};
 ghost use lib.Seq.{paste};
-ghost use Rattle.wire.specs.Digits.{digitOf, two, four, hexOf, valueOf, twoAt, fourAt, octetsIn, octet, word, octets};
+ghost use Rattle.wire.specs.Digits.{digitOf, two, four, hexOf, valueOf, twoAt, fourAt, octetsIn, octet, word, FindsOctets};
 
 // What one or two digits give.
 pub enum Octet {
@@ -17,10 +18,15 @@ pub enum Word {
     Bad,
 }
 
-// Up to 16 bytes from two digits each. An array stands beside the verdict, since no enum holds one.
+// How many bytes digits give.
+pub enum Count {
+    Value(u8),
+    Bad,
+}
+
+// Up to 16 bytes from two digits each, with zeros behind them. The array stands beside the count, since no enum holds one.
 pub struct Octets {
-    pub good: bool,
-    pub count: u8,
+    pub count: Count,
     pub bytes: [u8; 16],
 }
 
@@ -73,33 +79,36 @@ pub fn four_at(s: &[u8], at: usize) -> Word
 
 // The bytes that two digits each give, at most 16 of them.
 pub fn octets_in(t: &[u8]) -> Octets
-    ensures { λ r. ⌜ octets r ≡ octetsIn (now (t .entry)) ⌝ }
+    ensures { λ r. ⌜ FindsOctets r (octetsIn (now (t .entry))) ⌝ }
 {
     let mut bytes = [0u8; 16];
     let n = t.len();
     if 32 < n {
-        return Octets {
-            good: false,
-            count: 0,
-            bytes,
-        };
+        return no_octets();
     }
     let mut i: usize = 0;
     while i + i + 1 < n {
         let Octet::Value(b) = two_at(t, i + i) else {
-            return Octets {
-                good: false,
-                count: 0,
-                bytes,
-            };
+            return no_octets();
         };
         bytes[i] = b;
         i += 1;
     }
+    if i + i != n {
+        return no_octets();
+    }
     Octets {
-        good: i + i == n,
-        count: i as u8,
+        count: Count::Value(i as u8),
         bytes,
+    }
+}
+
+fn no_octets() -> Octets
+    ensures { λ r. ⌜ FindsOctets r none ⌝ }
+{
+    Octets {
+        count: Count::Bad,
+        bytes: [0u8; 16],
     }
 }
 

@@ -2,8 +2,8 @@
 use borrow.Author.Needs.{needs}
 use mathlib.Core.List.{List, []}
 use mathlib.Core.Path.{_≡_}
-use Prim.Native.Nat.{ℕ}
-use Rattle.messages.specs.View.{requestOf, replyOf}
+use Prim.Native.Nat.{ℕ, _≤_}
+use Rattle.messages.specs.View.{requestOf, replyOf, requestCount}
 use Rattle.messages.specs.declared.message.Date.{Date}
 use Rattle.messages.specs.declared.message.DateAnswer.{DateAnswer}
 use Rattle.messages.specs.declared.message.Reply.{Reply}
@@ -25,6 +25,10 @@ module _ (i : Identity) (m bytes : List ℕ) {d : Decision} {q : Request} where
       → Decides d (effectOf i m (requestOf q bytes))
   unfolding effectOf
   date-read h e u = decides-as h (rw (u, e))
+
+-- the count of a tag write is the one that is asked for
+counted : (q : Request) (n : ℕ) → requestCount q ≤ 16 → q ≡ Request.TagWrite n → n ≤ 16
+counted q n h e = rw e at h
 
 enum-known-request : tie.Need-enum-known-request
 enum-known-request c = search needs
@@ -102,7 +106,7 @@ enum-known-request-6 : tie.Need-enum-known-request-6
 enum-known-request-6 c = search needs
 
 tag-write-requires : tie.Need-tag-write-requires
-tag-write-requires c κs = search needs
+tag-write-requires c κs = search (needs, counted)
 
 returns-8 : tie.Need-returns-8
 unfolding effectOf

@@ -1,22 +1,22 @@
 -- The bytes from index 8 to ETX are as many as the size says.
 use borrow.Author.Needs.{needs}
 use mathlib.Core.List.{List}
-use mathlib.Core.Option.{Option}
-use mathlib.Core.Path.{_≡_, _∙_}
+use mathlib.Core.Path.{_≡_}
 use Prim.Native.Nat.{ℕ, _-_}
 use native.Mathlib.Omega.{arith}
 use lib.ListN.{length, getD, take, drop}
 use Rattle.wire.specs.Packet.{size, packetText}
 use Rattle.wire.specs.Inner.{Whole}
-use Rattle.messages.specs.Message.{Request}
 use Rattle.messages.specs.Read.{requestIn}
+use Rattle.parser.specs.View.{Parses}
+use Rattle.parser.specs.declared.parse.ParsedRequest.{ParsedRequest}
 use Rattle.packets.proofs.asked_in.Statement.{statement}
 use Rattle.packets.proofs.asked_in.Tie as tie
 
-text-behind : (p : List ℕ) {q : Option Request} → q ≡ requestIn (getD p 4 0) (take (length p - 3 - 8) (drop 8 p)) → Whole p
-    → q ≡ requestIn (getD p 4 0) (packetText p)
+text-behind : (p : List ℕ) {q : ParsedRequest} → Parses q (requestIn (getD p 4 0) (take (length p - 3 - 8) (drop 8 p))) → Whole p
+    → Parses q (requestIn (getD p 4 0) (packetText p))
 unfolding packetText
-text-behind p e w = let n : length p - 3 - 8 ≡ size p - 11 = omega (arith, w .sized) in e ∙ rw n
+text-behind p h w = let n : length p - 3 - 8 ≡ size p - 11 = omega (arith, w .sized) in rw n at h
 
 sub-end : tie.Need-sub-end
 sub-end c = search needs

@@ -5,6 +5,7 @@ use mathlib.Core.Path.{_≡_, sym}
 use Prim.Native.Nat.{ℕ, _≤_}
 use lib.ListN.{length, take}
 use lib.Seq.{length-take-le}
+use Rattle.parser.proofs.ParseLaws.{asked-few}
 use Rattle.packets.proofs.DecisionLaws.{packet-own, packet-all, packet-another}
 use Rattle.packets.proofs.on_packet.Statement.{statement}
 use Rattle.packets.proofs.on_packet.Tie as tie
@@ -28,7 +29,7 @@ enum-told : tie.Need-enum-told
 enum-told c = search needs
 
 for-own-requires : tie.Need-for-own-requires
-for-own-requires c κs = search needs
+for-own-requires c κs = search (needs, asked-few)
 
 same-length : tie.Need-same-length
 same-length c = search needs
@@ -40,7 +41,7 @@ enum-told-2 : tie.Need-enum-told-2
 enum-told-2 c = search needs
 
 for-all-requires : tie.Need-for-all-requires
-for-all-requires c κs = search needs
+for-all-requires c κs = search (needs, asked-few)
 
 returns-2 : tie.Need-returns-2
 returns-2 c = search packet-all

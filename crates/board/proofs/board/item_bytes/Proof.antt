@@ -6,7 +6,7 @@ use Prim.Native.Nat.{ℕ, _+_}
 use native.Mathlib.Omega.{arith}
 use lib.ListN.{length, replicate}
 use lib.Seq.{paste, take-length}
-use Rattle.store.specs.Contents.{padded}
+use Rattle.wire.specs.Digits.{padded}
 use Rattle.board.specs.Values.{itemValue}
 use Rattle.board.proofs.board.item_bytes.Statement.{statement}
 use Rattle.board.proofs.board.item_bytes.Tie as tie

@@ -1,6 +1,6 @@
 -- No bytes, and zeros behind them.
 use borrow.Author.Needs.{needs}
-use Rattle.store.specs.Contents.{padded}
+use Rattle.wire.specs.Digits.{padded}
 use Rattle.board.proofs.board.no_board.Statement.{statement}
 use Rattle.board.proofs.board.no_board.Tie as tie
 

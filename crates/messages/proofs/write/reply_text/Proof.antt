@@ -7,8 +7,8 @@ use lib.ListN.{length, take}
 use Rattle.wire.specs.Digits.{hexOf}
 use Rattle.wire.specs.Packet.{typeB}
 use Rattle.messages.specs.Text.{replyType, replyText, itemReplyName}
-use Rattle.messages.specs.View.{replyOf, dateAnswerOf}
-use Rattle.messages.specs.Inner.{Beside, Writes, replyCount}
+use Rattle.messages.specs.View.{replyOf, dateAnswerOf, replyCount}
+use Rattle.messages.specs.Inner.{Beside, Writes}
 use Rattle.messages.specs.declared.message.Date.{Date}
 use Rattle.messages.specs.declared.message.DateAnswer.{DateAnswer}
 use Rattle.messages.specs.declared.message.Item.{Item}

@@ -6,8 +6,8 @@ use borrow.Author.Needs.{needs}
 use lib.ListN.{length, take}
 use Rattle.wire.specs.Packet.{typeA}
 use Rattle.messages.specs.Text.{requestType, requestText, itemReadName}
-use Rattle.messages.specs.View.{requestOf}
-use Rattle.messages.specs.Inner.{Beside, Writes, requestCount}
+use Rattle.messages.specs.View.{requestOf, requestCount}
+use Rattle.messages.specs.Inner.{Beside, Writes}
 use Rattle.messages.specs.declared.message.Item.{Item}
 use Rattle.messages.specs.declared.message.Request.{Request}
 use Rattle.messages.specs.declared.write.Written.{Written}

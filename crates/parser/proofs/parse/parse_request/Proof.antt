@@ -1,29 +1,11 @@
 -- The types in the order of the definition; what stands behind F011 is a tag if it is bytes.
-use mathlib.Core.Bool.{true, false, not}
-use mathlib.Core.List.{List}
-use mathlib.Core.Option.{Option, none, some, Option·map}
-use mathlib.Core.Path.{_≡_}
-use Prim.Native.Nat.{ℕ, _-_}
 use borrow.Author.Needs.{needs}
-use borrow.Author.Tests.{not-true, not-false}
-use lib.ListN.{length, take, drop}
-use Rattle.wire.specs.Digits.{octets, octetsIn}
-use Rattle.wire.specs.declared.digits.Octets.{Octets}
 use Rattle.wire.proofs.Ways.{ways}
 use Rattle.messages.specs.Read.{requestIn}
-use Rattle.text_fields.proofs.TextLaws.{room-behind-not, part-rest}
-use Rattle.parser.proofs.ParseLaws.{without-bytes, other}
+use Rattle.text_fields.proofs.TextLaws.{room-behind-not}
+use Rattle.parser.proofs.ParseLaws.{without-bytes, other, tag, no-tag}
 use Rattle.parser.proofs.parse.parse_request.Statement.{statement}
 use Rattle.parser.proofs.parse.parse_request.Tie as tie
-
--- what stands behind F011 is a tag if it is bytes
-module _ {A : Type 0} (t : List ℕ) (f : List ℕ → A) (z : Option A)
-    (r : Octets) (told : octets r ≡ octetsIn (take (length t - 4) (drop 4 t))) where
-  tag : not (r .good) ≡ false → z ≡ some (f (take (r .count) (r .bytes))) → z ≡ Option·map f (octetsIn (drop 4 t))
-  tag e p = rw (← part-rest 4 t, ← told, not-false (r .good) e) p
-
-  no-tag : not (r .good) ≡ true → z ≡ none → z ≡ Option·map f (octetsIn (drop 4 t))
-  no-tag e p = rw (← part-rest 4 t, ← told, not-true (r .good) e) p
 
 parse-get-requires : tie.Need-parse-get-requires
 parse-get-requires c κs = search needs
@@ -33,7 +15,7 @@ without-bytes-requires c κs = search needs
 
 returns : tie.Need-returns
 unfolding requestIn
-returns c = search (ways, without-bytes) depth 10
+returns c = without-bytes _ _ (c .before .parse-get .ensures) _ _ (c .without-bytes .ensures) (search ways depth 10)
 
 parse-set-requires : tie.Need-parse-set-requires
 parse-set-requires c κs = search needs
@@ -43,7 +25,7 @@ without-bytes-requires-2 c κs = search needs
 
 returns-2 : tie.Need-returns-2
 unfolding requestIn
-returns-2 c = search (ways, without-bytes) depth 10
+returns-2 c = without-bytes _ _ (c .before .parse-set .ensures) _ _ (c .without-bytes2 .ensures) (search ways depth 10)
 
 without-bytes-requires-3 : tie.Need-without-bytes-requires-3
 without-bytes-requires-3 c κs = search needs
@@ -66,7 +48,7 @@ without-bytes-requires-4 c κs = search needs
 
 returns-4 : tie.Need-returns-4
 unfolding requestIn
-returns-4 c = search (ways, without-bytes) depth 10
+returns-4 c = without-bytes _ _ (c .before .parse-command .ensures) _ _ (c .without-bytes4 .ensures) (search ways depth 10)
 
 sub-octets-in : tie.Need-sub-octets-in
 sub-octets-in c = search room-behind-not
@@ -79,6 +61,12 @@ part-octets-in-end c = search needs
 
 octets-in-requires : tie.Need-octets-in-requires
 octets-in-requires c κs = search needs
+
+enum-known-counted : tie.Need-enum-known-counted
+enum-known-counted c = search needs
+
+enum-told : tie.Need-enum-told
+enum-told c = search needs
 
 without-bytes-requires-5 : tie.Need-without-bytes-requires-5
 without-bytes-requires-5 c κs = search needs
@@ -112,6 +100,8 @@ parse-request-spec =
     part-octets-in-start
     part-octets-in-end
     octets-in-requires
+    enum-known-counted
+    enum-told
     without-bytes-requires-5
     returns-5
     returns-6)

@@ -1,34 +1,29 @@
 -- The names one after the other, as in the definition; a text that begins with a name is long enough to have a rest.
 use mathlib.Core.List.{List}
-use mathlib.Core.Option.{Option·map}
+use mathlib.Core.Option.{Option, Option·map}
 use mathlib.Core.Path.{_≡_}
 use Prim.Native.Nat.{ℕ, _-_}
 use borrow.Author.Needs.{needs}
 use lib.ListN.{length, take, drop}
 use Rattle.wire.specs.Digits.{octetsIn}
 use Rattle.messages.specs.Message as message
-use Rattle.messages.specs.Message as message
-use Rattle.messages.specs.Read.{plainReplyIn, tagWriteReplyIn, commandReplyIn}
+use Rattle.messages.specs.Read.{tagWriteReplyIn, commandReplyIn}
 use Rattle.text_fields.proofs.TextLaws.{part-rest, room-behind}
-use Rattle.replies.specs.View.{readingWith, textReading, orRefused}
-use Rattle.replies.specs.declared.read.ReplyOrRefusal.{ReplyOrRefusal}
+use Rattle.replies.specs.View.{orRefused, ReadsText}
 use Rattle.replies.specs.declared.read.TextReading.{TextReading}
-use Rattle.replies.proofs.ReplyLaws.{told}
+use Rattle.replies.proofs.ReplyLaws.{told, without-bytes}
 use Rattle.replies.proofs.read.read_command_reply.Statement.{statement}
 use Rattle.replies.proofs.read.read_command_reply.Tie as tie
 
-module _ (t : List ℕ) (r : TextReading) where
-  octets-behind : (f : List ℕ → message.Reply) → textReading r ≡ orRefused (Option·map f (octetsIn (take (length t - 4) (drop 4 t))))
-      → textReading r ≡ orRefused (Option·map f (octetsIn (drop 4 t)))
-  octets-behind f is = rw (← part-rest 4 t) is
+module _ (t : List ℕ) (w : Option message.Reply) (r : TextReading) where
+  octets-behind : (f : List ℕ → message.Reply) → ReadsText r (orRefused (Option·map f (octetsIn (take (length t - 4) (drop 4 t)))))
+      → orRefused (Option·map f (octetsIn (drop 4 t))) ≡ orRefused w
+      → ReadsText r (orRefused w)
+  octets-behind f is p = rw (← p, ← part-rest 4 t) is
 
-  tag-write-behind : textReading r ≡ orRefused (tagWriteReplyIn (take (length t - 4) (drop 4 t)))
-      → textReading r ≡ orRefused (tagWriteReplyIn (drop 4 t))
-  tag-write-behind is = rw (← part-rest 4 t) is
-
-  plainly : (a : ReplyOrRefusal) → r .answer ≡ a → ((bytes : List ℕ) → readingWith a bytes ≡ orRefused (plainReplyIn t))
-      → textReading r ≡ orRefused (plainReplyIn t)
-  plainly a e is = rw e (is (r .bytes))
+  tag-write-behind : ReadsText r (orRefused (tagWriteReplyIn (take (length t - 4) (drop 4 t)))) → orRefused (tagWriteReplyIn (drop 4 t)) ≡ orRefused w
+      → ReadsText r (orRefused w)
+  tag-write-behind is p = rw (← p, ← part-rest 4 t) is
 
 slice-aggregate-begins-with : tie.Need-slice-aggregate-begins-with
 slice-aggregate-begins-with c = search needs
@@ -148,7 +143,7 @@ without-bytes-requires c κs = search needs
 
 returns-6 : tie.Need-returns-6
 unfolding commandReplyIn
-returns-6 c = search (told, plainly) depth 20
+returns-6 c = search (told, without-bytes, c .before .read-plain-reply .ensures) depth 20
 
 pub read-command-reply-spec : {M : Type 1} → statement M
 read-command-reply-spec =

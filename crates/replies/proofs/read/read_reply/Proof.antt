@@ -1,7 +1,7 @@
 -- The types one after the other, as in the definition.
 use borrow.Author.Needs.{needs}
 use Rattle.messages.specs.Read.{replyIn}
-use Rattle.replies.proofs.ReplyLaws.{ways, without-bytes, refusal}
+use Rattle.replies.proofs.ReplyLaws.{ways, read-as, without-bytes, refusal}
 use Rattle.replies.proofs.read.read_reply.Statement.{statement}
 use Rattle.replies.proofs.read.read_reply.Tie as tie
 
@@ -13,7 +13,7 @@ without-bytes-requires c κs = search needs
 
 returns : tie.Need-returns
 unfolding replyIn
-returns c = search (ways, without-bytes)
+returns c = search (ways, without-bytes, c .before .read-parameter .ensures)
 
 read-parameter-requires-2 : tie.Need-read-parameter-requires-2
 read-parameter-requires-2 c κs = search needs
@@ -23,14 +23,14 @@ without-bytes-requires-2 c κs = search needs
 
 returns-2 : tie.Need-returns-2
 unfolding replyIn
-returns-2 c = search (ways, without-bytes)
+returns-2 c = search (ways, without-bytes, c .before .read-parameter2 .ensures)
 
 read-command-reply-requires : tie.Need-read-command-reply-requires
 read-command-reply-requires c κs = search needs
 
 returns-3 : tie.Need-returns-3
 unfolding replyIn
-returns-3 c = search ways
+returns-3 c = search (ways, read-as)
 
 without-bytes-requires-3 : tie.Need-without-bytes-requires-3
 without-bytes-requires-3 c κs = search needs

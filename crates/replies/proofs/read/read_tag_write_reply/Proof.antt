@@ -1,7 +1,7 @@
 -- The status first, then the bytes of the rest, as in the definition.
 use borrow.Author.Needs.{needs}
 use Rattle.messages.specs.Read.{tagWriteReplyIn}
-use Rattle.replies.proofs.ReplyLaws.{ways, octets-behind, no-octets-behind, refusal}
+use Rattle.replies.proofs.ReplyLaws.{ways, octets-value, octets-bad, finds-behind, tag-read, refusal}
 use Rattle.replies.proofs.read.read_tag_write_reply.Statement.{statement}
 use Rattle.replies.proofs.read.read_tag_write_reply.Tie as tie
 
@@ -40,16 +40,22 @@ part-octets-in-end c = search needs
 octets-in-requires : tie.Need-octets-in-requires
 octets-in-requires c κs = search needs
 
+enum-known-counted : tie.Need-enum-known-counted
+enum-known-counted c = search needs
+
+enum-told-2 : tie.Need-enum-told-2
+enum-told-2 c = search needs
+
 without-bytes-requires-3 : tie.Need-without-bytes-requires-3
 without-bytes-requires-3 c κs = search needs
 
 returns-3 : tie.Need-returns-3
 unfolding tagWriteReplyIn
-returns-3 c = search (ways, no-octets-behind, refusal)
+returns-3 c = search (ways, octets-bad, finds-behind, refusal)
 
 returns-4 : tie.Need-returns-4
 unfolding tagWriteReplyIn
-returns-4 c = search (ways, octets-behind)
+returns-4 c = search (ways, octets-value, finds-behind, tag-read)
 
 pub read-tag-write-reply-spec : {M : Type 1} → statement M
 read-tag-write-reply-spec =
@@ -66,6 +72,8 @@ read-tag-write-reply-spec =
     part-octets-in-start
     part-octets-in-end
     octets-in-requires
+    enum-known-counted
+    enum-told-2
     without-bytes-requires-3
     returns-3
     returns-4)

@@ -7,27 +7,28 @@ use lib.ListN.{getD}
 use Rattle.wire.specs.Packet.{addressBase}
 use Rattle.wire.specs.Judge.{verdict}
 use Rattle.wire.specs.Inner.{Whole}
+use Rattle.wire.specs.Refusal.{numberOf}
 use Rattle.wire.specs.declared.packet.Judged.{Judged}
 use Rattle.wire.specs.declared.refusal.Refusal.{Refusal}
 use Rattle.replies.specs.View.{orRefused}
-use Rattle.replies.specs.declared.read.ReplyOrRefusal.{ReplyOrRefusal}
-use Rattle.station.specs.Read.{sentBy, replyInMessage, replyVerdict, readPacket, packetReading}
+use Rattle.station.specs.Read.{refused, sentBy, replyInMessage, replyVerdict, readPacket, ReadsPacket}
 use Rattle.station.specs.declared.read.PacketReading.{PacketReading}
 use Rattle.station.proofs.ReadLaws.{good-reply}
 use Rattle.station.proofs.read.read_packet.Statement.{statement}
 use Rattle.station.proofs.read.read_packet.Tie as tie
 
 module _ (p : List ℕ) (judged : Judged) (told : verdict judged ≡ replyVerdict p) where
-  refused-read : (found : PacketReading) (r : Refusal) → found .answer ≡ ReplyOrRefusal.Refused r → judged ≡ Judged.Refused r
-      → packetReading found ≡ readPacket p
+  refused-read : (found : PacketReading) (r : Refusal) → ReadsPacket found (refused (numberOf r)) → judged ≡ Judged.Refused r
+      → ReadsPacket found (readPacket p)
   unfolding readPacket
-  refused-read found r e j = rw (e, ← told, j)
+  refused-read found r e j = rw (← told, j) e
 
   good-read : judged ≡ Judged.Good → Whole p × (addressBase ≤ getD p 3 0)
   good-read j = let g = good-reply p (sym told ∙ rw j) in (g .whole, g .monitor)
 
-  read-good : (found : PacketReading) → judged ≡ Judged.Good → packetReading found ≡ sentBy (getD p 3 0 - addressBase) (orRefused (replyInMessage p))
-      → packetReading found ≡ readPacket p
+  read-good : (found : PacketReading) → judged ≡ Judged.Good
+      → ReadsPacket found (sentBy (getD p 3 0 - addressBase) (orRefused (replyInMessage p)))
+      → ReadsPacket found (readPacket p)
   unfolding readPacket
   read-good found j e = rw (← told, j) e
 

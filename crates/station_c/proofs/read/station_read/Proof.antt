@@ -1,19 +1,27 @@
 -- The tests of room are the definition's; then the answer is the reader's, and a reply is listed.
 use borrow.Author.Needs.{needs, length-unmapped}
-use mathlib.Core.List.{List, map}
-use mathlib.Core.Path.{_≡_, refl, _∙_}
-use Prim.Native.Nat.{ℕ, _<_, _≤_}
-use lib.ListN.{length, take}
+use mathlib.Core.List.{List, [], map}
+use mathlib.Core.Path.{_≡_, refl, sym, ap, _∙_}
+use Prim.Native.Nat.{ℕ, _+_, _<_, _≤_}
+use native.Mathlib.Omega.{arith}
+use lib.ListN.{length, take, drop, replicate, length-append, length-take}
+use lib.Seq.{paste, length-take-le}
+use Rattle.wire.specs.Digits.{padded}
 use Rattle.wire.specs.Packet.{over}
 use Rattle.wire.specs.Refusal.{numberOf}
 use Rattle.wire.specs.declared.refusal.Refusal.{Refusal}
 use Rattle.wire.proofs.Tests.{tests}
+use Rattle.wire.proofs.PacketLaws.{over-paste}
+use Rattle.messages.specs.Message.{replyBytes}
+use Rattle.messages.specs.View.{replyOf}
 use Rattle.messages.specs.declared.message.Reply.{Reply}
+use Rattle.replies.specs.View.{answerCount}
 use Rattle.replies.specs.declared.read.ReplyOrRefusal.{ReplyOrRefusal}
-use Rattle.station.specs.Read.{PacketReading, refused, readPacket, packetReading}
+use Rattle.replies.proofs.ReplyLaws.{reply-beside}
+use Rattle.station.specs.Read.{PacketReading, refused, readPacket, packetReading, bytesIn, ReadsPacket}
 use Rattle.station.specs.declared.read.PacketReading as declared
 use Rattle.station_c.specs.Read.{readInto, ReadsForC}
-use Rattle.station_c.specs.Inner.{Lists, PutsItem}
+use Rattle.station_c.specs.Inner.{Lists}
 use Rattle.station_c.specs.declared.read.Listed.{Listed}
 use Rattle.station_c.proofs.read.station_read.Statement.{statement}
 use Rattle.station_c.proofs.read.station_read.Tie as tie
@@ -21,6 +29,29 @@ use Rattle.station_c.proofs.read.station_read.Tie as tie
 refused-leaves : (e : PacketReading) (n : ℕ) (numbers bytes : List ℕ) (count : ℕ) → e ≡ refused n
     → ReadsForC e n numbers numbers bytes bytes count count
 refused-leaves e n numbers bytes count q = rw q (record { result = refl; numbers = refl; bytes = refl; count = refl })
+
+-- an array of so many elements, as its value tells
+array-room : (n : ℕ) (array out : List ℕ) → length (map (λ (x : ℕ). x) array) ≡ n → n ≤ length out → length array ≤ length out
+array-room n array out e h = rw (length-unmapped ℕ array n e) h
+
+numbers-there : (l : Listed) (id : ℕ) (r : Reply) → Lists l id r → length (map (λ (x : ℕ). x) (l .numbers)) ≡ 9 → l .count ≤ length (l .numbers)
+numbers-there l id r lists e = rw (length-unmapped ℕ (l .numbers) 9 e) (lists .few)
+
+part-room : (n : ℕ) (item out : List ℕ) → length (map (λ (x : ℕ). x) item) ≡ 16 → 16 ≤ length out → 0 + length (take n item) ≤ length out
+part-room n item out e h =
+    let room = array-room 16 item out e h in
+    rw (length-take n item) (omega arith)
+
+-- the bytes that a reply counts are in the array
+padded-holds : (s : List ℕ) → length s ≤ length (padded s)
+unfolding padded
+padded-holds s = rw (length-append s (drop (length s) (replicate 16 0))) (omega arith)
+
+beside-there : (found : declared.PacketReading) (wanted : PacketReading) (r : Reply) (l : Listed) (id : ℕ) → ReadsPacket found wanted
+    → found .answer ≡ ReplyOrRefusal.Reply r → Lists l id r → l .beside ≤ length (found .bytes)
+beside-there found wanted r l id is e lists =
+    let counted : l .beside ≡ length (bytesIn wanted) = lists .beside ∙ (sym (ap answerCount e) ∙ is .count) in
+    rw (counted, is .bytes) (padded-holds (bytesIn wanted))
 
 module _ (packet numbers bytes : List ℕ) (count : ℕ) where
   abbrev reading : PacketReading
@@ -35,35 +66,32 @@ module _ (packet numbers bytes : List ℕ) (count : ℕ) where
     unfolding readInto
     few-bytes n = refused-leaves reading 10 numbers bytes count (search tests)
 
-    module _ (k : 16 ≤ length bytes) (found : declared.PacketReading) (told : packetReading found ≡ readPacket packet) where
+    module _ (k : 16 ≤ length bytes) (found : declared.PacketReading) (told : ReadsPacket found (readPacket packet)) where
       with-room : packetReading found ≡ reading
       unfolding readInto
-      with-room = told ∙ search tests
+      with-room = told .answer ∙ search tests
 
       refusal-exported : (r : Refusal) (n : ℕ) → found .answer ≡ ReplyOrRefusal.Refused r → n ≡ numberOf r
           → ReadsForC reading n numbers numbers bytes bytes count count
       refusal-exported r n e q = refused-leaves reading n numbers bytes count (rw (← with-room, e, q))
 
-      reply-exported : (r : Reply) (l : Listed) (numbersAfter bytesAfter : List ℕ) (n : ℕ)
-          → Lists l (found .sender) r → PutsItem (l .beside) (found .bytes) n bytes bytesAfter
+      reply-exported : (r : Reply) (l : Listed) (numbersAfter bytesAfter : List ℕ)
+          → Lists l (found .sender) r → found .answer ≡ ReplyOrRefusal.Reply r
+          → bytesAfter ≡ paste bytes 0 (take (l .beside) (found .bytes)) (length (take (l .beside) (found .bytes)))
           → numbersAfter ≡ over (take (l .count) (l .numbers)) numbers
-          → found .answer ≡ ReplyOrRefusal.Reply r → ReadsForC reading (l .kind) numbers numbersAfter bytes bytesAfter count n
-      reply-exported r l numbersAfter bytesAfter n lists p q e =
+          → ReadsForC reading (l .kind) numbers numbersAfter bytes bytesAfter count (l .beside)
+      unfolding over
+      reply-exported r l numbersAfter bytesAfter lists e p q =
           let listed = lists .lists (found .bytes) in
+          let there = length-take-le (l .beside) (found .bytes) (beside-there found (readPacket packet) r l (found .sender) told e lists) in
+          let own : replyBytes (replyOf r (found .bytes)) ≡ take (l .beside) (found .bytes) = rw (lists .beside) (reply-beside r (found .bytes)) in
           rw (← with-room, e)
           (record {
             result = listed .kind;
             numbers = q ∙ rw (listed .numbers);
-            bytes = p .put ∙ rw (listed .beside);
-            count = p .there ∙ rw (listed .beside);
+            bytes = p ∙ (over-paste [] bytes 0 refl (take (l .beside) (found .bytes)) ∙ rw own);
+            count = sym there ∙ rw own;
           })
-
--- an array of so many elements, as its value tells
-array-room : (n : ℕ) (array out : List ℕ) → length (map (λ (x : ℕ). x) array) ≡ n → n ≤ length out → length array ≤ length out
-array-room n array out e h = rw (length-unmapped ℕ array n e) h
-
-numbers-there : (l : Listed) (id : ℕ) (r : Reply) → Lists l id r → length (map (λ (x : ℕ). x) (l .numbers)) ≡ 9 → l .count ≤ length (l .numbers)
-numbers-there l id r lists e = rw (length-unmapped ℕ (l .numbers) 9 e) (lists .few)
 
 returns : tie.Need-returns
 returns c = search few-numbers
@@ -95,11 +123,17 @@ slice-aggregate-put-numbers c = search needs
 put-numbers-requires : tie.Need-put-numbers-requires
 put-numbers-requires c κs = (search numbers-there, search (array-room 9))
 
-slice-aggregate-put-item : tie.Need-slice-aggregate-put-item
-slice-aggregate-put-item c = search needs
+cast-n : tie.Need-cast-n
+cast-n c = search needs
 
-put-item-requires : tie.Need-put-item-requires
-put-item-requires c κs = search (array-room 16)
+array-share-prefix-item : tie.Need-array-share-prefix-item
+array-share-prefix-item c = search beside-there
+
+slice-aggregate-put-bytes : tie.Need-slice-aggregate-put-bytes
+slice-aggregate-put-bytes c = search (beside-there, length-take-le)
+
+put-bytes-requires : tie.Need-put-bytes-requires
+put-bytes-requires c κs = search part-room
 
 same-length : tie.Need-same-length
 same-length c = search needs
@@ -124,8 +158,10 @@ station-read-spec =
     list-reply-requires
     slice-aggregate-put-numbers
     put-numbers-requires
-    slice-aggregate-put-item
-    put-item-requires
+    cast-n
+    array-share-prefix-item
+    slice-aggregate-put-bytes
+    put-bytes-requires
     same-length
     same-length-2
     returns-4)

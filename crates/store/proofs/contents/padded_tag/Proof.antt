@@ -5,7 +5,7 @@ use mathlib.Core.Path.{_≡_, _∙_}
 use Prim.Native.Nat.{ℕ}
 use lib.ListN.{length, drop}
 use lib.Seq.{paste}
-use Rattle.store.specs.Contents.{padded}
+use Rattle.wire.specs.Digits.{padded}
 use Rattle.store.proofs.FieldLaws.{copy-first}
 use Rattle.store.proofs.contents.padded_tag.Statement.{statement}
 use Rattle.store.proofs.contents.padded_tag.Tie as tie

@@ -6,7 +6,8 @@ use Prim.Native.Nat.{ℕ}
 use native.Mathlib.Omega.{arith}
 use lib.ListN.{length, take, drop}
 use Rattle.plan.specs.Stores.{Entry, rangeOf, copied}
-use Rattle.store.specs.Contents.{padded, withLengths, tagStores}
+use Rattle.store.specs.Contents.{withLengths, tagStores}
+use Rattle.wire.specs.Digits.{padded}
 use Rattle.store.proofs.FieldLaws.{copied-of-first, only}
 use Rattle.store.proofs.contents.tag_stores.Statement.{statement}
 use Rattle.store.proofs.contents.tag_stores.Tie as tie
