@@ -97,9 +97,19 @@ fn put_reply(out: &mut [u8], at: usize, count: usize, reply: &[u8]) -> usize
     ensures { λ r. ⌜ PutFew 129 (now (out .entry)) at (0x20 ∷ hexOf (take count (now (reply .entry)))) r (now (out .exit)) ⌝ }
 {
     out[at] = b' ';
-    let n = digits::at_most(reply, count);
+    let n = at_most(reply, count);
     digits::put_hex(out, at + 1, &reply[..n]);
     at + 1 + n + n
+}
+
+// A count of bytes, or how many there are where that is less.
+fn at_most(bytes: &[u8], count: usize) -> usize
+    ensures { λ r. ⌜ (r ≤ length (now (bytes .entry))) × (take r (now (bytes .entry)) ≡ take count (now (bytes .entry))) ⌝ }
+{
+    if bytes.len() < count {
+        return bytes.len();
+    }
+    count
 }
 
 fn put_text(out: &mut [u8], at: usize, text: &[u8]) -> usize

@@ -2,7 +2,7 @@
 ghost use mathlib.Core.Option.{none};
 ghost use mathlib.Core.Path.{_≡_};
 ghost use Prim.Native.Nat.{_+_, _<_, _≤_};
-ghost use lib.ListN.{length, take};
+ghost use lib.ListN.{length};
 ghost use lib.Seq.{paste};
 ghost use Rattle.wire.specs.Digits.{digitOf, two, four, hexOf, valueOf, twoAt, fourAt, octetsIn, octet, word, FindsOctets};
 
@@ -118,16 +118,6 @@ fn digit_of(n: u8) -> u8
     ensures { λ r. ⌜ r ≡ digitOf n ⌝ }
 {
     if n < 10 { 0x30 + n } else { 0x37 + n }
-}
-
-// A count of bytes, or how many there are where that is less.
-pub fn at_most(bytes: &[u8], count: usize) -> usize
-    ensures { λ r. ⌜ (r ≤ length (now (bytes .entry))) × (take r (now (bytes .entry)) ≡ take count (now (bytes .entry))) ⌝ }
-{
-    if bytes.len() < count {
-        return bytes.len();
-    }
-    count
 }
 
 // Writes bytes from a place on.

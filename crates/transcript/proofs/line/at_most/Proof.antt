@@ -6,8 +6,8 @@ use native.Mathlib.Omega.{arith}
 use lib.ListN.{length, take}
 use lib.Seq.{take-all}
 use borrow.Author.Needs.{needs}
-use Rattle.wire.proofs.digits.at_most.Statement.{statement}
-use Rattle.wire.proofs.digits.at_most.Tie as tie
+use Rattle.transcript.proofs.line.at_most.Statement.{statement}
+use Rattle.transcript.proofs.line.at_most.Tie as tie
 
 all-counted : (s : List ℕ) (count : ℕ) → length s < count → take (length s) s ≡ take count s
 all-counted s count h = take-all (length s) s (omega arith) ∙ sym (take-all count s (omega arith))
