@@ -1,18 +1,22 @@
 -- What the reader's tests say of a packet.
-use borrow.Author.Tests.{leb-true, eqb-true, ltb-false}
+use borrow.Author.Tests.{leb-true, eqb-true, ltb-false, le-ltb}
 use mathlib.Core.Bool.{Bool, true, false, cond, _&&_}
 use mathlib.Core.List.{List}
-use mathlib.Core.Path.{_≡_, refl}
+use mathlib.Core.Path.{_≡_, refl, sym, ap, _∙_}
 use Prim.Native.Nat.{ℕ, _-_, _≤_}
 use native.Mathlib.Omega.{arith}
 use lib.Dec.{leb, ltb, eqb}
-use lib.ListN.{length, getD, take, drop}
+use lib.ListN.{length, getD, take, drop, take-append-drop}
+use lib.Seq.{length-take-le}
+use Rattle.wire.specs.Digits.{twoAt}
 use Rattle.wire.specs.Packet.{soh, zeroByte, addressBase, leastPacket, size, packetText}
 use Rattle.wire.specs.Judge.{Verdict, good, refused, isLength, endsInReturn, hasCheckCode}
 use Rattle.wire.specs.Inner.{Whole}
 use Rattle.wire.proofs.Tests.{both}
+use Rattle.wire.proofs.DigitLaws.{two-at-append}
 use Rattle.wire.proofs.PacketLaws.{good-passed}
-use Rattle.station.specs.Read.{isSource, isReplyType, isReplyHeader, isWholeLength, replyVerdict}
+use Rattle.messages.specs.Message.{Reply}
+use Rattle.station.specs.Read.{PacketReading, reply, isSource, isReplyType, isReplyHeader, isWholeLength, replySize, replyVerdict, unlessRefused, readPacket}
 
 -- a test that a good verdict has not met
 good-passed-not : (t : Bool) (n : ℕ) (v : Verdict) → cond t (refused n) v ≡ good → (t ≡ false) × (v ≡ good)
@@ -45,9 +49,14 @@ module _ (p : List ℕ) where
   unfolding isWholeLength
   whole-packet h e = record { least = h; sized = eqb-true (size p) (length p) (both (isLength p) (eqb (size p) (length p)) e .1) }
 
+  good-digits : isWholeLength p ≡ true → isLength p ≡ true
+  unfolding isWholeLength
+  good-digits e = both (isLength p) (eqb (size p) (length p)) e .0
+
   -- what a packet that is not refused with 30 to 34 is
   pub record GoodReply : Type 0 where
     pub whole : Whole p
+    pub digits : isLength p ≡ true
     pub start : getD p 0 0 ≡ soh
     pub monitor : addressBase ≤ getD p 3 0
     pub end : endsInReturn p ≡ true
@@ -63,6 +72,7 @@ module _ (p : List ℕ) where
       let code = good-passed (hasCheckCode p) 34 good (end .1) in
       record {
         whole = whole-packet (ltb-false (length p) leastPacket (long .0)) (sized .0);
+        digits = good-digits (sized .0);
         start = start-of-reply (header .0);
         monitor = omega (arith, source-of-reply (header .0));
         end = end .0;
@@ -74,3 +84,24 @@ module _ (p : List ℕ) where
   text-of-whole w =
       let e : length p - 3 - 8 ≡ size p - 11 = omega arith in
       rw e
+
+-- ---- the length digits of a packet that is read
+
+not-refused : (v : Verdict) (y : PacketReading) {id : ℕ} {x : Reply} → unlessRefused v y ≡ reply id x → v ≡ good
+not-refused good y e = refl
+not-refused (refused n) y e = let z : _≡_ {A = ℕ} 0 1 = cc in absurd (omega arith)
+
+-- they are among the first seven bytes, and give its length
+module _ (p : List ℕ) {id : ℕ} {x : Reply} (e : readPacket p ≡ reply id x) where
+  read-good : GoodReply p
+  unfolding readPacket
+  read-good = good-reply p (not-refused (replyVerdict p) _ e)
+
+  digits-first : (n : ℕ) → 7 ≤ length (take n p) → twoAt p 5 ≡ twoAt (take n p) 5
+  digits-first n long = ap (λ (s : List ℕ). twoAt s 5) (sym (take-append-drop n p)) ∙ two-at-append (take n p) (drop n p) 5 (omega arith)
+
+  pub read-framed : (n : ℕ) → 7 ≤ n → n ≤ length p → replySize (take n p) ≡ length p
+  unfolding replySize isLength size
+  read-framed n least most =
+      let long : 7 ≤ length (take n p) = rw (length-take-le n p most) least in
+      rw (le-ltb (length (take n p)) 7 long, ← digits-first n long, read-good .digits) (read-good .whole .sized)

@@ -1,0 +1,107 @@
+-- Every refusal of the encoder and of the reader for C, and the length that first bytes tell (docs/RULES.md, 'Station', EN1, RD1, XC1 and XC2), their
+-- numbers written out; digits, the exclusive or and the replies' texts are those of `wire` and `messages`. A call is refused with the number of the
+-- first check that fails, and goes on where none does.
+use mathlib.Core.Bool.{Bool, true, false, cond, not, _&&_, _||_}
+use mathlib.Core.List.{List, [], _∷_}
+use mathlib.Core.Option.{Option, none, some}
+use mathlib.Core.Path.{_≡_}
+use Prim.Native.Nat.{ℕ, _+_, _-_, _≤_}
+use lib.Dec.{ltb, leb, eqb}
+use lib.ListN.{length, getD, take, drop}
+use Rattle.wire.specs.Digits.{twoAt}
+use Rattle.wire.specs.Packet.{xorOf}
+use Rattle.wire.specs.Checks.{Check, firstFailed}
+use Rattle.messages.specs.Message.{Reply}
+use Rattle.messages.specs.Read.{replyIn}
+use Rattle.station.specs.Encode as encode
+use Rattle.station.specs.Read as read
+use Rattle.station.specs.Read.{replySize}
+use Rattle.station_c.specs.Encode.{Call, encodeGet, encodeSet, encodePowerRead, encodePowerControl, encodeDateRead, encodeDateWrite}
+use Rattle.station_c.specs.Encode.{encodeSerialRead, encodeModelRead, encodeTagRead, encodeFormerTagRead, encodeTagWrite, encodingFor}
+use Rattle.station_c.specs.Read.{readInto}
+
+-- ---- the encoder
+
+abbrev pub encodingRefusal : encode.Encoding → Option ℕ
+encodingRefusal (encode.sends p) = none
+encodingRefusal (encode.refused n) = some n
+
+-- the IDs 1 to 8, and 256 for ALL
+abbrev pub isDestination : ℕ → Bool
+isDestination n = (leb 1 n && leb n 8) || eqb n 256
+
+-- modes 1 and 4, dates in their ranges, tags of at most 16 bytes; any page, code and value
+abbrev pub isTaken : Call → Bool
+isTaken (encodeGet page code) = true
+isTaken (encodeSet page code value) = true
+isTaken encodePowerRead = true
+isTaken (encodePowerControl mode) = eqb mode 1 || eqb mode 4
+isTaken encodeDateRead = true
+isTaken (encodeDateWrite yy mm dd ww hh mn ds) =
+    leb yy 99 && (leb 1 mm && leb mm 12) && (leb 1 dd && leb dd 31) && leb ww 6 && leb hh 23 && leb mn 59 && eqb ds 0
+isTaken encodeSerialRead = true
+isTaken encodeModelRead = true
+isTaken encodeTagRead = true
+isTaken encodeFormerTagRead = true
+isTaken (encodeTagWrite tag) = leb (length tag) 16
+
+-- the lent buffer, the destination, the values
+unfoldable pub encoderChecks : ℕ → ℕ → Call → List Check
+encoderChecks room dest c = (ltb room 64, 10) ∷ (not (isDestination dest), 20) ∷ (not (isTaken c), 21) ∷ []
+
+-- ---- the reader
+
+abbrev pub readingRefusal : read.PacketReading → Option ℕ
+readingRefusal (read.reply id r) = none
+readingRefusal (read.refused n) = some n
+
+-- 01h '0' '0', a source A to H, a type B, D or F
+abbrev pub isHeader : List ℕ → Bool
+isHeader p =
+    eqb (getD p 0 0) 0x01 && eqb (getD p 1 0) 0x30 && eqb (getD p 2 0) 0x30
+    && (leb 0x41 (getD p 3 0) && leb (getD p 3 0) 0x48)
+    && (eqb (getD p 4 0) 0x42 || (eqb (getD p 4 0) 0x44 || eqb (getD p 4 0) 0x46))
+
+-- good length digits of 4 to 64 that give the packet's length
+abbrev pub isItsLength : Option ℕ → ℕ → Bool
+isItsLength (some l) n = leb 4 l && leb l 64 && eqb (l + 9) n
+isItsLength none n = false
+
+abbrev pub isSome : Option Reply → Bool
+isSome (some r) = true
+isSome none = false
+
+-- STX, ETX, and between them one of the replies
+abbrev pub isReply : List ℕ → Bool
+isReply p =
+    eqb (getD p 7 0) 0x02 && eqb (getD p (length p - 3) 0) 0x03 && isSome (replyIn (getD p 4 0) (take (length p - 11) (drop 8 p)))
+
+-- the lent numbers and bytes; how many bytes; the header; the length; CR; the check code; the message
+unfoldable pub readerChecks : ℕ → ℕ → List ℕ → List Check
+readerChecks numbers bytes p =
+    (ltb numbers 9 || ltb bytes 16, 10)
+    ∷ (ltb (length p) 13, 30)
+    ∷ (not (isHeader p), 31)
+    ∷ (not (isItsLength (twoAt p 5) (length p)), 32)
+    ∷ (not (eqb (getD p (length p - 1) 0) 0x0D), 33)
+    ∷ (not (eqb (getD p (length p - 2) 0) (xorOf (take (length p - 3) (drop 1 p)))), 34)
+    ∷ (not (isReply p), 35)
+    ∷ []
+
+-- ---- the length that first bytes tell
+
+-- L + 9 once seven bytes are there and their length digits give 4 to 64; else 0
+abbrev pub sizeBy : ℕ → Option ℕ → ℕ
+sizeBy n (some l) = cond (leb 7 n && (leb 4 l && leb l 64)) (l + 9) 0
+sizeBy n none = 0
+
+-- ---- every call
+
+pub record Refusals : Type 0 where
+  pub encoder : (room dest : ℕ) (c : Call) → encodingRefusal (encodingFor room dest c) ≡ firstFailed (encoderChecks room dest c)
+  pub reader : (numbers bytes : ℕ) (p : List ℕ) → readingRefusal (readInto numbers bytes p) ≡ firstFailed (readerChecks numbers bytes p)
+  -- no reply needs more than 73 bytes, and one that is read has the length that it tells
+  pub size : (first : List ℕ) → replySize first ≡ sizeBy (length first) (twoAt first 5)
+  pub most : (first : List ℕ) → replySize first ≤ 73
+  pub framed : (numbers bytes : ℕ) (p : List ℕ) (id : ℕ) (r : Reply) → readInto numbers bytes p ≡ read.reply id r
+      → (n : ℕ) → 7 ≤ n → n ≤ length p → replySize (take n p) ≡ length p
