@@ -1,6 +1,6 @@
 -- A request that the station writes, given to a board that it addresses, does what the request says: the text in its packet is read back as that request.
 use mathlib.Core.Path.{_≡_, refl, sym, subst}
-use mathlib.Core.Bool.{Bool, _&&_}
+use mathlib.Core.Bool.{Bool, true, _&&_}
 use mathlib.Core.List.{List, _++_}
 use mathlib.Core.Option.{Option, none, some}
 use Prim.Native.Nat.{ℕ, _+_, _-_, _≤_}
@@ -30,24 +30,26 @@ use Rattle.exchange.specs.Demand2.{Addresses, done}
 
 -- ---- what the encoder sends
 
-pub record Sent (address : Option ℕ) (kind : ℕ) (text p : List ℕ) : Type 0 where
+pub record Sent (address : Option ℕ) (good : Bool) (kind : ℕ) (text p : List ℕ) : Type 0 where
   pub to : ℕ
   pub known : address ≡ some to
+  pub in-range : good ≡ true
   pub is : p ≡ requestPacket to kind text
 
 module _ (kind : ℕ) (text p : List ℕ) where
   refusal-sends-none : {P : Type 0} (n : ℕ) → refused n ≡ sends p → P
   refusal-sends-none n e = let z : _≡_ {A = ℕ} 0 1 = cc in absurd (omega arith)
 
-  sent-to : (address : Option ℕ) (good : Bool) → encodingTo address good kind text ≡ sends p → Sent address kind text p
+  sent-to : (address : Option ℕ) (good : Bool) → encodingTo address good kind text ≡ sends p → Sent address good kind text p
   sent-to none good = refusal-sends-none 20
   sent-to (some a) good =
-      cond-by (λ (x : Encoding). x ≡ sends p → Sent (some a) kind text p) good _ _ (λ _ e. record { to = a; known = refl; is = cc }) (λ _. refusal-sends-none 21)
+      cond-by (λ (x : Encoding). x ≡ sends p → Sent (some a) good kind text p) good _ _ (λ t e. record { to = a; known = refl; in-range = t; is = cc })
+      (λ _. refusal-sends-none 21)
 
-  sent : (room : ℕ) (dest : Destination) (good : Bool) → encodingOf room dest good kind text ≡ sends p → Sent (addressIn dest) kind text p
+  pub sent : (room : ℕ) (dest : Destination) (good : Bool) → encodingOf room dest good kind text ≡ sends p → Sent (addressIn dest) good kind text p
   unfolding encodingOf
   sent room dest good =
-      cond-by (λ (x : Encoding). x ≡ sends p → Sent (addressIn dest) kind text p) (ltb room 64) _ _ (λ _. refusal-sends-none 10) (λ _. sent-to (addressIn dest) good)
+      cond-by (λ (x : Encoding). x ≡ sends p → Sent (addressIn dest) good kind text p) (ltb room 64) _ _ (λ _. refusal-sends-none 10) (λ _. sent-to (addressIn dest) good)
 
 -- ---- what a packet does at a board that it addresses
 

@@ -24,7 +24,7 @@ date-bytes m d = date-by Bytes m d (λ u f v _ _. field-bytes u f v)
 
 -- ---- a tag
 
-set-bytes : (s : List ℕ) (p b : ℕ) → b < 256 → Bytes s → Bytes (set s p b)
+pub set-bytes : (s : List ℕ) (p b : ℕ) → b < 256 → Bytes s → Bytes (set s p b)
 set-bytes [] p b k h i = h i
 set-bytes (x ∷ s) zero b k h zero = k
 set-bytes (x ∷ s) zero b k h (suc i) = h (suc i)

@@ -1,0 +1,19 @@
+-- Demand 2 in C's numbers, put together.
+use Rattle.station_c.proofs.Listed.{listed-back}
+use Rattle.exchange_c.specs.Demand2.{Demand2C}
+use Rattle.exchange_c.proofs.Calls.{passed, arguments}
+use Rattle.exchange_c.proofs.Exchanged.{exchanged}
+use Rattle.exchange_c.proofs.Erase.{erased, erased-by-all}
+use Rattle.exchange_c.proofs.StoredBytes.{bytes-kept}
+
+pub demand2 : Demand2C
+demand2 =
+    record {
+      passed = passed;
+      arguments = arguments;
+      listed-back = listed-back;
+      exchanged = exchanged;
+      erased = erased;
+      erased-by-all = erased-by-all;
+      bytes-kept = bytes-kept;
+    }

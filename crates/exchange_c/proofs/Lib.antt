@@ -1,0 +1,6 @@
+pub mod Calls
+pub mod Told
+pub mod Exchanged
+pub mod Erase
+pub mod StoredBytes
+pub mod Demand2

@@ -1,0 +1,1 @@
+// Demand 2 in C's numbers: board, encoder and reader together. Nothing here runs.
