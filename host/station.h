@@ -119,8 +119,8 @@ uint8_t station_encode_tag_write(uint16_t dest, const uint8_t *tag, size_t tag_l
  * Where a reply ends: how many bytes a packet has whose first bytes these are, 13 to STATION_REPLY_MOST. The length digits at
  * first[5] and first[6] decide; a CR, 03h or 01h before that is a byte like others, for a check code may be one.
  *
- * 0 while there are fewer than STATION_HEADER_BYTES, and with more of them where the length digits are bad or outside 4 to 64:
- * then nothing tells where the packet ends. No other byte is looked at, so a packet that is no reply has its length too.
+ * 0 while there are fewer than STATION_HEADER_BYTES, and from then on where the length digits are bad or outside 4 to 64: nothing
+ * tells then where the packet ends. No other byte is looked at, so a packet that is no reply has its length too.
  */
 size_t station_reply_size(const uint8_t *first, size_t first_len);
 

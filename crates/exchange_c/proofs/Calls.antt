@@ -1,9 +1,10 @@
 -- What C passes and the encoder takes is a request. Its packet is written, and has one destination and one call.
 use mathlib.Core.Bool.{true, cond, _&&_}
 use mathlib.Core.List.{List}
-use mathlib.Core.Option.{Option, some, Option·some-injective}
+use mathlib.Core.Logic.{_⊎_, inl, inr}
+use mathlib.Core.Option.{Option, none, some, Option·some-injective}
 use mathlib.Core.Path.{_≡_, refl, sym, ap, _∙_}
-use Prim.Native.Nat.{ℕ, _+_, _-_}
+use Prim.Native.Nat.{ℕ, _+_, _-_, _≤_}
 use native.Mathlib.Omega.{arith}
 use borrow.Author.Tests.{leb-true, eqb-true, le-leb, le-ltb, ne-eqb}
 use lib.Dec.{leb, eqb}
@@ -18,7 +19,7 @@ use Rattle.messages.specs.Read.{requestIn}
 use Rattle.messages.specs.declared.message.Item.{Item}
 use Rattle.messages.proofs.RoundTrips.{request-back, request-length}
 use Rattle.calls.specs.Board.{Identity}
-use Rattle.station.specs.Encode.{sends, addressIn, encodingOf}
+use Rattle.station.specs.Encode.{Encoding, sends, refused, addressIn, encodingTo, encodingOf}
 use Rattle.station.specs.declared.encode.Destination.{Destination}
 use Rattle.station_c.proofs.Checks.{taken-as}
 use Rattle.station_c.specs.Checks.{isTaken}
@@ -28,21 +29,21 @@ use Rattle.station_c.specs.Encode.{destinationOf, requestFor, encodingFor}
 use Rattle.exchange.specs.Rows.{Ready}
 use Rattle.exchange.proofs.Requests.{sent}
 use Rattle.exchange.proofs.RowLaws.{named}
-use Rattle.exchange_c.specs.Demand2.{IsPassed, Encoded}
+use Rattle.exchange_c.specs.Demand2.{IsPassed, IsSent, Encoded}
 
-pub passed : (c : Call) → IsPassed c → isTaken c ≡ true → IsRequest (requestFor c)
-passed (encodeGet page code) h t = h
-passed (encodeSet page code value) h t = h
-passed encodePowerRead h t = tt
-passed (encodePowerControl mode) h t = h
-passed encodeDateRead h t = tt
-passed (encodeDateWrite yy mm dd ww hh mn ds) h t =
+pub taken-request : (c : Call) → IsPassed c → isTaken c ≡ true → IsRequest (requestFor c)
+taken-request (encodeGet page code) h t = h
+taken-request (encodeSet page code value) h t = h
+taken-request encodePowerRead h t = tt
+taken-request (encodePowerControl mode) h t = h
+taken-request encodeDateRead h t = tt
+taken-request (encodeDateWrite yy mm dd ww hh mn ds) h t =
     record { year = h .0; month = h .1; day = h .2; weekday = h .3; hour = h .4; minute = h .5; daylight = h .6 }
-passed encodeSerialRead h t = tt
-passed encodeModelRead h t = tt
-passed encodeTagRead h t = tt
-passed encodeFormerTagRead h t = tt
-passed (encodeTagWrite tag) h t = record { few = leb-true (length tag) 16 t; bytes = h }
+taken-request encodeSerialRead h t = tt
+taken-request encodeModelRead h t = tt
+taken-request encodeTagRead h t = tt
+taken-request encodeFormerTagRead h t = tt
+taken-request (encodeTagWrite tag) h t = record { few = leb-true (length tag) 16 t; bytes = h }
 
 -- ---- a call that is encoded
 
@@ -57,6 +58,22 @@ pub encoded : (dest a : ℕ) (c : Call) → addressIn (destinationOf dest) ≡ s
 unfolding encodingOf
 encoded dest a c known t out size room =
     rw (le-ltb (length out) 64 room, known, taken-as c ∙ t) (record { told = record { result = refl; size = refl }; buffer = refl })
+
+-- sent, or refused with 20 or 21
+abbrev Passed : Call → Encoding → Type 0
+Passed c e = (IsRequest (requestFor c) × IsSent e) ⊎ ((e ≡ refused 20) ⊎ (e ≡ refused 21))
+
+passed-to : (c : Call) → IsPassed c → (a : Option ℕ) (kind : ℕ) (text : List ℕ) → Passed c (encodingTo a (isTaken c) kind text)
+passed-to c h none kind text = inr (inl refl)
+passed-to c h (some a) kind text =
+    cond-by (Passed c) (isTaken c) _ _ (λ t. inl (taken-request c h t, tt)) (λ _. inr (inr refl))
+
+pub passed : (room dest : ℕ) (c : Call) → IsPassed c → 64 ≤ room
+    → (IsRequest (requestFor c) × IsSent (encodingFor room dest c))
+    ⊎ ((encodingFor room dest c ≡ refused 20) ⊎ (encodingFor room dest c ≡ refused 21))
+unfolding encodingOf
+passed room dest c h big =
+    rw (le-ltb room 64 big, taken-as c) (passed-to c h (addressIn (destinationOf dest)) (requestType (requestFor c)) (requestText (requestFor c)))
 
 pub all-address : addressIn (destinationOf 256) ≡ some 0x2A
 unfolding destinationOf
@@ -116,7 +133,7 @@ module _ (room dest : ℕ) (c : Call) (p : List ℕ) (h : IsPassed c) (e : encod
   encoded-back =
       let r = requestFor c in
       let x = sent (requestType r) (requestText r) p room (destinationOf dest) _ e in
-      let is = passed c h (sym (taken-as c) ∙ x .in-range) in
+      let is = taken-request c h (sym (taken-as c) ∙ x .in-range) in
       rw (x .is, text-packet (x .to) zeroByte (requestType r) (requestText r) (request-length r is .1))
       (destination-back dest (x .to) (x .known), request-back r is)
 

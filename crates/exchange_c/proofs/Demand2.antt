@@ -5,6 +5,7 @@ use Rattle.exchange_c.proofs.Calls.{passed, arguments}
 use Rattle.exchange_c.proofs.Exchanged.{exchanged}
 use Rattle.exchange_c.proofs.Erase.{erased, erased-by-all}
 use Rattle.exchange_c.proofs.StoredBytes.{bytes-kept}
+use Rattle.exchange_c.proofs.Unused.{unused-ready}
 
 pub demand2 : Demand2C
 demand2 =
@@ -15,5 +16,6 @@ demand2 =
       exchanged = exchanged;
       erased = erased;
       erased-by-all = erased-by-all;
+      unused-ready = unused-ready;
       bytes-kept = bytes-kept;
     }

@@ -23,8 +23,8 @@ use Rattle.station_c.specs.Encode.{encodeSerialRead, encodeModelRead, encodeTag
 use Rattle.station_c.specs.Encode.{requestFor}
 use Rattle.exchange.specs.Rows.{Ready, Asks, Shows, Changes, Rows, Setting, table, IsStandby, shownAfter}
 use Rattle.exchange.proofs.Rows.{rows}
-use Rattle.exchange_c.specs.Demand2.{IsPassed, isErase, isEraseCall, Told, rowAt, isOn, got, set, tells, ById, Tells, accepts, SetLeaves, Leaves, Exchanged}
-use Rattle.exchange_c.proofs.Calls.{passed, packetTo, packet-last, encoded, own-address, all-address}
+use Rattle.exchange_c.specs.Demand2.{IsPassed, isErase, isEraseCall, Told, rowAt, isOn, got, set, tells, ById, Reads, accepts, SetLeaves, Leaves, Exchanged}
+use Rattle.exchange_c.proofs.Calls.{taken-request, packetTo, packet-last, encoded, own-address, all-address}
 use Rattle.exchange_c.proofs.Told.{tellsOf, read-told}
 
 -- ---- a call that gets a reply
@@ -104,18 +104,18 @@ module _ (i : Identity) (m : List ℕ) (page code v : ℕ) where
   set-keeps : (o : Option Setting) → rowAt table page code ≡ o → accepts o v m ≡ false → SetLeaves i m page code v m
   set-keeps o e n =
       record {
-        refused = λ _. refl;
-        accepted = λ t d a. absurd (false≢true (sym n ∙ ap (λ (o : Option Setting). accepts o v m) (sym e ∙ d) ∙ a));
+        kept = λ _. refl;
+        stored = λ t d a. absurd (false≢true (sym n ∙ ap (λ (o : Option Setting). accepts o v m) (sym e ∙ d) ∙ a));
       }
 
   -- one that is: the row of a page and code is one only
   set-stores : (t : Setting) (left : List ℕ) → rowAt table page code ≡ some t → accepts (some t) v m ≡ true
-      → Tells i left (encodeGet page code) (tellsOf (i .id) (getReply 0 page code 0 (t .largest) (shownAfter page code v)))
+      → Reads i left (encodeGet page code) (tellsOf (i .id) (getReply 0 page code 0 (t .largest) (shownAfter page code v)))
       → SetLeaves i m page code v left
   set-stores t left e a shows =
       record {
-        refused = λ n. absurd (false≢true (sym n ∙ ap (λ (o : Option Setting). accepts o v m) e ∙ a));
-        accepted = λ u d _. rw (← Option·some-injective t u (sym e ∙ d)) shows;
+        kept = λ n. absurd (false≢true (sym n ∙ ap (λ (o : Option Setting). accepts o v m) e ∙ a));
+        stored = λ u d _. rw (← Option·some-injective t u (sym e ∙ d)) shows;
       }
 
 module _ (i : Identity) (m : List ℕ) (ready : Ready i m) where
@@ -203,7 +203,7 @@ module _ (i : Identity) (m : List ℕ) (ready : Ready i m) where
   call-asked encodeTagRead h t other = shown encodeTagRead (all .tag-read) refl
   call-asked encodeFormerTagRead h t other = shown encodeFormerTagRead (all .former-read) refl
   call-asked (encodeTagWrite tag) h t other =
-      let x = all .tag-write tag (passed (encodeTagWrite tag) h t) in
+      let x = all .tag-write tag (taken-request (encodeTagWrite tag) h t) in
       changed (encodeTagWrite tag) x (
         asked-by-id i (x .left) encodeTagRead (x .ready) refl (x .shown .tag-shown),
         asked-by-id i (x .left) encodeFormerTagRead (x .ready) refl (x .shown .former-shown),

@@ -3,4 +3,5 @@ pub mod Told
 pub mod Exchanged
 pub mod Erase
 pub mod StoredBytes
+pub mod Unused
 pub mod Demand2

@@ -44,7 +44,7 @@ tested-bytes [] e i = omega arith
 tested-bytes (b ∷ s) e zero = ltb-true b 256 (both (ltb b 256) (each (λ b. ltb b 256) s) e .0)
 tested-bytes (b ∷ s) e (suc i) = tested-bytes s (both (ltb b 256) (each (λ b. ltb b 256) s) e .1) i
 
-unused-are-bytes : Bytes unusedStore
+pub unused-are-bytes : Bytes unusedStore
 unfolding unusedStore
 unused-are-bytes = tested-bytes unusedStore refl
 

@@ -2,6 +2,7 @@
 -- the reader are that board's own values. Kinds, places, pages, codes and ranges are written out; `table`, the board's rows, is Rows.antt's.
 use mathlib.Core.Bool.{Bool, true, false, cond, _&&_}
 use mathlib.Core.List.{List, [], _∷_, _++_}
+use mathlib.Core.Logic.{_⊎_}
 use mathlib.Core.Option.{Option, none, some}
 use mathlib.Core.Path.{_≡_}
 use Prim.Native.Nat.{ℕ, zero, suc, _+_, _-_, _≤_, _<_}
@@ -10,14 +11,14 @@ use lib.ListN.{length, take, replicate}
 use Rattle.bitfield.specs.Field.{getField}
 use Rattle.wire.specs.Digits.{Bytes}
 use Rattle.wire.specs.Packet.{over}
-use Rattle.messages.specs.Message.{Reply, IsRequest, replyBytes}
+use Rattle.messages.specs.Message.{Reply, IsRequest, IsItem, replyBytes}
 use Rattle.calls.specs.Board.{Identity, Answer, waiting, silent, begun, more, ended, reply}
 use Rattle.calls.specs.Lists.{step, answered, started, unstarted, run}
 use Rattle.packets.specs.Packets.{BoardState, holding}
 use Rattle.board.specs.BoardKind.{boardKind}
 use Rattle.board.specs.Demand3.{Events, Trace, unusedBytes}
 use Rattle.board.specs.ByteCalls.{byteCalls, waits}
-use Rattle.station.specs.Encode.{sends}
+use Rattle.station.specs.Encode.{Encoding, sends, refused}
 use Rattle.station.specs.Read.{replySize}
 use Rattle.station_c.specs.Encode.{Call, encodeGet, encodeSet, encodePowerRead, encodePowerControl, encodeDateRead, encodeDateWrite}
 use Rattle.station_c.specs.Encode.{encodeSerialRead, encodeModelRead, encodeTagRead, encodeFormerTagRead, encodeTagWrite}
@@ -59,6 +60,10 @@ isEraseCall encodeModelRead = false
 isEraseCall encodeTagRead = false
 isEraseCall encodeFormerTagRead = false
 isEraseCall (encodeTagWrite tag) = false
+
+abbrev pub IsSent : Encoding → Type 0
+IsSent (sends packet) = Unit {0}
+IsSent (refused n) = ⊥
 
 -- the result 0, the packet at the start of any lent buffer of 64 bytes or more, and its length in its place
 abbrev pub Encoded : ℕ → Call → List ℕ → Type 0
@@ -138,8 +143,8 @@ pub record ToAll (i : Identity) (m : List ℕ) (c : Call) (left : List ℕ) : Ty
       ≡ waits lent m 0 (length packet - 1) ++ (answered silent (lent (length packet - 1)) left ∷ run boardKind i (holding i []) left es)
 
 -- a call that only reads, and the read that shows what a call stored; both leave every byte
-abbrev pub Tells : Identity → List ℕ → Call → Told → Type 0
-Tells i m c t = ById i m c t m
+abbrev pub Reads : Identity → List ℕ → Call → Told → Type 0
+Reads i m c t = ById i m c t m
 
 -- whether a Set of a value is accepted
 abbrev pub accepts : Option Setting → ℕ → List ℕ → Bool
@@ -148,25 +153,25 @@ accepts none v m = false
 
 -- the store that a Set leaves: as it was, or one of which the next Get tells the value, 17 for input 4
 pub record SetLeaves (i : Identity) (m : List ℕ) (page code v : ℕ) (left : List ℕ) : Type 0 where
-  pub refused : accepts (rowAt table page code) v m ≡ false → left ≡ m
-  pub accepted : (t : Setting) → rowAt table page code ≡ some t → accepts (some t) v m ≡ true
-      → Tells i left (encodeGet page code) (told 102 (i .id ∷ 0 ∷ page ∷ code ∷ 0 ∷ t .largest ∷ shownAfter page code v ∷ []) [])
+  pub kept : accepts (rowAt table page code) v m ≡ false → left ≡ m
+  pub stored : (t : Setting) → rowAt table page code ≡ some t → accepts (some t) v m ≡ true
+      → Reads i left (encodeGet page code) (told 102 (i .id ∷ 0 ∷ page ∷ code ∷ 0 ∷ t .largest ∷ shownAfter page code v ∷ []) [])
 
 -- the store that a call leaves: as it was, or one of which the next read tells what was passed
 abbrev pub Leaves : Identity → List ℕ → Call → List ℕ → Type 0
 Leaves i m (encodeGet page code) left = left ≡ m
 Leaves i m (encodeSet page code v) left = SetLeaves i m page code v left
 Leaves i m encodePowerRead left = left ≡ m
-Leaves i m (encodePowerControl mode) left = Tells i left encodePowerRead (told 104 (i .id ∷ 0 ∷ mode ∷ []) [])
+Leaves i m (encodePowerControl mode) left = Reads i left encodePowerRead (told 104 (i .id ∷ 0 ∷ mode ∷ []) [])
 Leaves i m encodeDateRead left = left ≡ m
 Leaves i m (encodeDateWrite yy mm dd ww hh mn ds) left =
-    Tells i left encodeDateRead (told 106 (i .id ∷ yy ∷ mm ∷ dd ∷ ww ∷ hh ∷ mn ∷ ds ∷ []) [])
+    Reads i left encodeDateRead (told 106 (i .id ∷ yy ∷ mm ∷ dd ∷ ww ∷ hh ∷ mn ∷ ds ∷ []) [])
 Leaves i m encodeSerialRead left = left ≡ m
 Leaves i m encodeModelRead left = left ≡ m
 Leaves i m encodeTagRead left = left ≡ m
 Leaves i m encodeFormerTagRead left = left ≡ m
 Leaves i m (encodeTagWrite tag) left =
-    Tells i left encodeTagRead (told 110 (i .id ∷ []) tag) × Tells i left encodeFormerTagRead (told 111 (i .id ∷ []) (tagIn m))
+    Reads i left encodeTagRead (told 110 (i .id ∷ []) tag) × Reads i left encodeFormerTagRead (told 111 (i .id ∷ []) (tagIn m))
 
 -- the board's own values are told, and what C passed is what the board then tells
 pub record Exchanged (i : Identity) (m : List ℕ) (c : Call) : Type 0 where
@@ -223,8 +228,10 @@ StoresBytes (unstarted n ∷ os) = StoresBytes os
 -- ---- demand 2
 
 pub record Demand2C : Type 0 where
-  -- what C passes and the encoder takes is a request
-  pub passed : (c : Call) → IsPassed c → isTaken c ≡ true → IsRequest (requestFor c)
+  -- what C passes with room for a packet is a request, and is sent, or is refused with 20 or 21
+  pub passed : (room dest : ℕ) (c : Call) → IsPassed c → 64 ≤ room
+      → (IsRequest (requestFor c) × IsSent (encodingFor room dest c))
+      ⊎ ((encodingFor room dest c ≡ refused 20) ⊎ (encodingFor room dest c ≡ refused 21))
   -- a packet has one destination and one call: its arguments are in it
   pub arguments : (room room′ dest dest′ : ℕ) (c c′ : Call) (packet : List ℕ) → IsPassed c → IsPassed c′
       → encodingFor room dest c ≡ sends packet → encodingFor room′ dest′ c′ ≡ sends packet → (dest ≡ dest′) × (c ≡ c′)
@@ -235,5 +242,7 @@ pub record Demand2C : Type 0 where
   -- the erase's
   pub erased : (i : Identity) (m : List ℕ) → Ready i m → ErasesById i m
   pub erased-by-all : (i : Identity) (m : List ℕ) → Ready i m → ErasesToAll i m
+  -- every unused board is at rest, its identity being in range and bytes
+  pub unused-ready : (i : Identity) → 1 ≤ i .id → i .id ≤ 8 → IsItem (i .serial) → IsItem (i .model) → Ready i unusedBytes
   -- a board whose store is bytes keeps it so, whatever list of calls, steps and cuts it gets
   pub bytes-kept : (s : BoardState) (m : List ℕ) (es : Events) → Bytes m → StoresBytes (run boardKind (s .ident) s m es)

@@ -57,6 +57,7 @@ worked-hold =
     untold refl and untold refl and untold refl and untold refl and untold refl and untold refl and untold refl and untold refl and
     untold refl and untold refl and untold refl and untold refl and untold refl and untold refl and untold refl and untold refl and
     untold refl and untold refl and untold refl and untold refl and untold refl and untold refl and untold refl and untold refl and
-    untold refl and untold refl and untold refl and refl and refl and refl and refl and refl and
-    refl and refl and refl and refl and refl and refl and refl and refl and
+    untold refl and untold refl and untold refl and untold refl and untold refl and untold refl and untold refl and untold refl and
+    untold refl and untold refl and refl and refl and refl and refl and refl and refl and
+    refl and refl and refl and refl and refl and refl and refl and
     tt

@@ -100,8 +100,8 @@ sizeBy n none = 0
 pub record Refusals : Type 0 where
   pub encoder : (room dest : ℕ) (c : Call) → encodingRefusal (encodingFor room dest c) ≡ firstFailed (encoderChecks room dest c)
   pub reader : (numbers bytes : ℕ) (p : List ℕ) → readingRefusal (readInto numbers bytes p) ≡ firstFailed (readerChecks numbers bytes p)
-  -- no reply needs more than 73 bytes, and one that is read has the length that it tells
   pub size : (first : List ℕ) → replySize first ≡ sizeBy (length first) (twoAt first 5)
+  -- no packet needs more than 73 bytes, and one that is read has the length that its first bytes tell
   pub most : (first : List ℕ) → replySize first ≤ 73
   pub framed : (numbers bytes : ℕ) (p : List ℕ) (id : ℕ) (r : Reply) → readInto numbers bytes p ≡ read.reply id r
       → (n : ℕ) → 7 ≤ n → n ≤ length p → replySize (take n p) ≡ length p
