@@ -4,3 +4,4 @@ pub mod Vectors
 pub mod SendLaws
 pub mod ParseLaws
 pub mod WrittenBack
+pub mod RepliesWrittenBack

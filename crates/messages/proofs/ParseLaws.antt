@@ -9,7 +9,7 @@ use lib.ListN.{length, drop}
 use Rattle.wire.specs.Digits.{twoAt, fourAt, octetsIn}
 use Rattle.wire.proofs.Tests.{cond-by}
 use Rattle.wire.proofs.DigitLaws.{two-below, four-below, bytes-few, bytes-are-bytes}
-use Rattle.messages.specs.Message.{IsDate, IsRequest}
+use Rattle.messages.specs.Message.{IsDate, IsItem, IsRequest}
 use Rattle.messages.specs.Message.Request.{dateWrite, tagWrite}
 use Rattle.messages.specs.Text.{powerReadName, powerControlName, dateReadName, dateWriteName, itemReadName, tagWriteName}
 use Rattle.wire.specs.Packet.{typeA, typeC, typeE}
@@ -34,7 +34,7 @@ module _ {A : Type 0} (P : A → Type 0) where
   test-found : (t : Bool) (x y : Option A) → Found P x → Found P y → Found P (cond t x y)
   test-found t x y p q = cond-by (Found P) t x y (λ _. p) (λ _. q)
 
-date-found : (t : List ℕ) → Found IsDate (dateIn t)
+pub date-found : (t : List ℕ) → Found IsDate (dateIn t)
 unfolding dateIn
 date-found t =
     test-found IsDate (eqb (length t) 14) _ _
@@ -55,6 +55,9 @@ date-found t =
       daylight = two-below t 12 g;
     })
     tt
+
+pub item-fits : (t : List ℕ) {s : List ℕ} → octetsIn t ≡ some s → IsItem s
+item-fits t e = record { few = bytes-few t e; bytes = bytes-are-bytes t e }
 
 -- ---- requests
 
@@ -101,5 +104,5 @@ request-fits kind t =
     (test-found IsRequest (eqb kind typeE) _ _ (set-found t)
     (test-found IsRequest (eqb kind typeA) _ _
     (test-found IsRequest (beginsWith tagWriteName t) _ _
-    (map-found IsRequest tagWrite (octetsIn (drop 4 t)) (λ s e. record { few = bytes-few (drop 4 t) e; bytes = bytes-are-bytes (drop 4 t) e }))
+    (map-found IsRequest tagWrite (octetsIn (drop 4 t)) (λ _. item-fits (drop 4 t)))
     (command-found t)) tt))

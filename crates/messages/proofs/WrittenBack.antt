@@ -56,7 +56,7 @@ two-written h l e =
 
 -- ---- the parts of a text, each before what is behind it
 
-two-at : (t : List ℕ) (at : ℕ) {n : ℕ} (s : List ℕ) → at + 2 ≤ length t → twoAt t at ≡ some n → s ≡ drop (at + 2) t → two n ++ s ≡ drop at t
+pub two-at : (t : List ℕ) (at : ℕ) {n : ℕ} (s : List ℕ) → at + 2 ≤ length t → twoAt t at ≡ some n → s ≡ drop (at + 2) t → two n ++ s ≡ drop at t
 unfolding twoAt
 two-at t at s h e q =
     let one : at + 1 ≡ suc at = omega arith in
@@ -64,14 +64,14 @@ two-at t at s h e q =
     ap₂ (λ (a b : List ℕ). a ++ b) (two-written (getD t at 0) (getD t (at + 1) 0) e) q
     ∙ rw (drop-cons t at 0 (omega arith), drop-cons t (suc at) 0 (omega arith), one, more)
 
-four-at : (t : List ℕ) (at : ℕ) {n : ℕ} (s : List ℕ) → at + 2 + 2 ≤ length t → fourAt t at ≡ some n → s ≡ drop (at + 2 + 2) t
+pub four-at : (t : List ℕ) (at : ℕ) {n : ℕ} (s : List ℕ) → at + 2 + 2 ≤ length t → fourAt t at ≡ some n → s ≡ drop (at + 2 + 2) t
     → four n ++ s ≡ drop at t
 unfolding fourAt
 four-at t at {n} s h e q =
     let parts = join-told 256 (twoAt t at) (twoAt t (at + 2)) (λ _. two-below t (at + 2)) e in
     two-at t at (two (n % 256) ++ s) (omega arith) (parts .0) (two-at t (at + 2) s h (parts .1) q)
 
-name-written : (name t s : List ℕ) → beginsWith name t ≡ true → s ≡ drop (length name) t → name ++ s ≡ t
+pub name-written : (name t s : List ℕ) → beginsWith name t ≡ true → s ≡ drop (length name) t → name ++ s ≡ t
 unfolding beginsWith
 name-written [] t s h q = q
 name-written (a ∷ name) [] s h q = absurd (false≢true h)
@@ -80,16 +80,16 @@ name-written (a ∷ name) (b ∷ t) s h q =
     ap₂ (λ (x : ℕ) (y : List ℕ). x ∷ y) (eqb-true a b (w .0)) (name-written name t s (w .1) q)
 
 -- nothing is behind the last
-ended : (n : ℕ) (t : List ℕ) → length t ≤ n → [] ≡ drop n t
+pub ended : (n : ℕ) (t : List ℕ) → length t ≤ n → [] ≡ drop n t
 ended n t h = sym (drop-of-length-le t h)
 
-name-is : (name t : List ℕ) → isName name t ≡ true → name ≡ t
+pub name-is : (name t : List ℕ) → isName name t ≡ true → name ≡ t
 unfolding isName
 name-is name t h =
     let w = both (eqb (length t) (length name)) (beginsWith name t) h in
     sym (append-nil name) ∙ name-written name t [] (w .1) (ended (length name) t (omega (arith, eqb-true (length t) (length name) (w .0))))
 
-date-written : (t : List ℕ) → Found (λ d. dateText d ≡ t) (dateIn t)
+pub date-written : (t : List ℕ) → Found (λ d. dateText d ≡ t) (dateIn t)
 unfolding dateIn dateText
 date-written t =
     cond-by (Found (λ d. dateText d ≡ t)) (eqb (length t) 14) _ _
@@ -117,7 +117,7 @@ unhex-written (h ∷ l ∷ t) = go (join 16 (valueOf h) (valueOf l)) refl (unhex
     go (some b) e none q = tt
     go (some b) e (some bs) q = ap₂ (λ (x y : List ℕ). x ++ y) (two-written h l e) q
 
-octets-written : (t : List ℕ) → Found (λ s. hexOf s ≡ t) (octetsIn t)
+pub octets-written : (t : List ℕ) → Found (λ s. hexOf s ≡ t) (octetsIn t)
 unfolding octetsIn
 octets-written t = cond-by (Found (λ s. hexOf s ≡ t)) (ltb 32 (length t)) _ _ (λ _. tt) (λ _. unhex-written t)
 
