@@ -1,3 +1,4 @@
 pub mod Laws
 pub mod ReadLaws
 pub mod OneByte
+pub mod ReadWritten

@@ -73,7 +73,7 @@ module _ (p : List ℕ) where
       let g = good-reply p e in
       let n = size p in
       record {
-        start = g .start;
+        start = g .header .start;
         code = rw (g .whole .sized) at (eqb-true (getD p (n - 2) 0) (xorOf (take (n - 3) (drop 1 p))) (g .code));
         end = rw (g .whole .sized) at (eqb-true (getD p (n - 1) 0) cr (g .end));
       }

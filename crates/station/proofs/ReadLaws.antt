@@ -9,7 +9,7 @@ use lib.Dec.{leb, ltb, eqb}
 use lib.ListN.{length, getD, take, drop, take-append-drop}
 use lib.Seq.{length-take-le}
 use Rattle.wire.specs.Digits.{twoAt}
-use Rattle.wire.specs.Packet.{soh, zeroByte, addressBase, leastPacket, size, packetText}
+use Rattle.wire.specs.Packet.{soh, zeroByte, leastId, mostId, addressOf, leastPacket, size, packetText}
 use Rattle.wire.specs.Judge.{Verdict, good, refused, isLength, endsInReturn, hasCheckCode}
 use Rattle.wire.specs.Inner.{Whole}
 use Rattle.wire.proofs.Tests.{both}
@@ -24,26 +24,32 @@ good-passed-not false n v e = (refl, e)
 good-passed-not true n v e = let z : _≡_ {A = ℕ} 0 1 = cc in absurd (omega arith)
 
 module _ (p : List ℕ) where
-  -- the three bytes that are the same in every reply
-  abbrev isFixed : Bool
-  isFixed = eqb (getD p 0 0) soh && eqb (getD p 1 0) zeroByte && eqb (getD p 2 0) zeroByte
+  -- the header's bytes, but its type and its length
+  pub record Header : Type 0 where
+    pub start : getD p 0 0 ≡ soh
+    pub reserved : getD p 1 0 ≡ zeroByte
+    pub station : getD p 2 0 ≡ zeroByte
+    pub least : addressOf leastId ≤ getD p 3 0
+    pub most : getD p 3 0 ≤ addressOf mostId
 
-  fixed-and-source : isReplyHeader p ≡ true → (isFixed ≡ true) × (isSource (getD p 3 0) ≡ true)
+  header-told : isReplyHeader p ≡ true → Header
   unfolding isReplyHeader
-  fixed-and-source e =
-      let source = isSource (getD p 3 0) in
-      both isFixed source (both (isFixed && source) (isReplyType (getD p 4 0)) e .0)
-
-  pub start-of-reply : isReplyHeader p ≡ true → getD p 0 0 ≡ soh
-  start-of-reply e =
+  header-told e =
       let start = eqb (getD p 0 0) soh in
       let reserved = eqb (getD p 1 0) zeroByte in
-      eqb-true (getD p 0 0) soh (both start reserved (both (start && reserved) (eqb (getD p 2 0) zeroByte) (fixed-and-source e .0) .0) .0)
-
-  pub source-of-reply : isReplyHeader p ≡ true → 0x41 ≤ getD p 3 0
-  source-of-reply e =
-      let source = getD p 3 0 in
-      leb-true 0x41 source (both (leb 0x41 source) (leb source 0x48) (fixed-and-source e .1) .0)
+      let station = eqb (getD p 2 0) zeroByte in
+      let source = isSource (getD p 3 0) in
+      let four = both (start && reserved && station) source (both (start && reserved && station && source) (isReplyType (getD p 4 0)) e .0) in
+      let three = both (start && reserved) station (four .0) in
+      let two = both start reserved (three .0) in
+      let monitor = both (leb 0x41 (getD p 3 0)) (leb (getD p 3 0) 0x48) (four .1) in
+      record {
+        start = eqb-true (getD p 0 0) soh (two .0);
+        reserved = eqb-true (getD p 1 0) zeroByte (two .1);
+        station = eqb-true (getD p 2 0) zeroByte (three .1);
+        least = leb-true 0x41 (getD p 3 0) (monitor .0);
+        most = leb-true (getD p 3 0) 0x48 (monitor .1);
+      }
 
   pub whole-packet : 13 ≤ length p → isWholeLength p ≡ true → Whole p
   unfolding isWholeLength
@@ -57,8 +63,7 @@ module _ (p : List ℕ) where
   pub record GoodReply : Type 0 where
     pub whole : Whole p
     pub digits : isLength p ≡ true
-    pub start : getD p 0 0 ≡ soh
-    pub monitor : addressBase ≤ getD p 3 0
+    pub header : Header
     pub end : endsInReturn p ≡ true
     pub code : hasCheckCode p ≡ true
 
@@ -73,8 +78,7 @@ module _ (p : List ℕ) where
       record {
         whole = whole-packet (ltb-false (length p) leastPacket (long .0)) (sized .0);
         digits = good-digits (sized .0);
-        start = start-of-reply (header .0);
-        monitor = omega (arith, source-of-reply (header .0));
+        header = header-told (header .0);
         end = end .0;
         code = code .0;
       }
@@ -85,17 +89,17 @@ module _ (p : List ℕ) where
       let e : length p - 3 - 8 ≡ size p - 11 = omega arith in
       rw e
 
--- ---- the length digits of a packet that is read
+-- ---- a packet that is read
 
-not-refused : (v : Verdict) (y : PacketReading) {id : ℕ} {x : Reply} → unlessRefused v y ≡ reply id x → v ≡ good
-not-refused good y e = refl
+pub not-refused : (v : Verdict) (y : PacketReading) {id : ℕ} {x : Reply} → unlessRefused v y ≡ reply id x → (v ≡ good) × (y ≡ reply id x)
+not-refused good y e = (refl, e)
 not-refused (refused n) y e = let z : _≡_ {A = ℕ} 0 1 = cc in absurd (omega arith)
 
--- they are among the first seven bytes, and give its length
+-- its length digits are among the first seven bytes, and give its length
 module _ (p : List ℕ) {id : ℕ} {x : Reply} (e : readPacket p ≡ reply id x) where
   read-good : GoodReply p
   unfolding readPacket
-  read-good = good-reply p (not-refused (replyVerdict p) _ e)
+  read-good = good-reply p (not-refused (replyVerdict p) _ e .0)
 
   digits-first : (n : ℕ) → 7 ≤ length (take n p) → twoAt p 5 ≡ twoAt (take n p) 5
   digits-first n long = ap (λ (s : List ℕ). twoAt s 5) (sym (take-append-drop n p)) ∙ two-at-append (take n p) (drop n p) 5 (omega arith)

@@ -3,6 +3,7 @@ use borrow.Author.Needs.{needs}
 use mathlib.Core.List.{List}
 use mathlib.Core.Path.{_≡_, sym, _∙_}
 use Prim.Native.Nat.{ℕ, _-_, _≤_}
+use native.Mathlib.Omega.{arith}
 use lib.ListN.{getD}
 use Rattle.wire.specs.Packet.{addressBase}
 use Rattle.wire.specs.Judge.{verdict}
@@ -24,7 +25,7 @@ module _ (p : List ℕ) (judged : Judged) (told : verdict judged ≡ replyVerdic
   refused-read found r e j = rw (← told, j) e
 
   good-read : judged ≡ Judged.Good → Whole p × (addressBase ≤ getD p 3 0)
-  good-read j = let g = good-reply p (sym told ∙ rw j) in (g .whole, g .monitor)
+  good-read j = let g = good-reply p (sym told ∙ rw j) in (g .whole, omega (arith, g .header .least))
 
   read-good : (found : PacketReading) → judged ≡ Judged.Good
       → ReadsPacket found (sentBy (getD p 3 0 - addressBase) (orRefused (replyInMessage p)))
