@@ -7,7 +7,7 @@ use Prim.Native.Nat.{ℕ, _+_, _≤_}
 use native.Mathlib.Omega.{arith}
 use borrow.Author.Tests.{le-leb, lt-leb, ltb-true, ltb-false, leb-true, eqb-true, not-false}
 use lib.Dec.{ltb, leb, eqb}
-use lib.ListN.{length, getD, take}
+use lib.ListN.{length, getD}
 use Rattle.wire.specs.Digits.{twoAt}
 use Rattle.wire.specs.Packet.{addressOf, allAddress, size, sizeFrom, checkCode, packetText}
 use Rattle.wire.specs.Judge.{Verdict, inLimits, isLength, endsInReturn, hasCheckCode, isMessage}
@@ -23,6 +23,7 @@ use Rattle.station.specs.Encode.{Encoding, addressIn, isInRange, encodingTo, en
 use Rattle.station.specs.Read as read
 use Rattle.station.specs.Read.{PacketReading, sentBy, isReplyHeader, isWholeLength, replyInMessage, replyVerdict, unlessRefused, readPacket, replySize}
 use Rattle.station.proofs.ReadLaws.{read-framed}
+use Rattle.station.proofs.ReadWritten.{read-written}
 use Rattle.station.specs.declared.encode.Destination.{Destination}
 use Rattle.station_c.specs.Encode.{Call, encodeGet, encodeSet, encodePowerRead, encodePowerControl, encodeDateRead, encodeDateWrite}
 use Rattle.station_c.specs.Encode.{encodeSerialRead, encodeModelRead, encodeTagRead, encodeFormerTagRead, encodeTagWrite}
@@ -148,12 +149,13 @@ size-most n (some l) = cond-by (λ (k : ℕ). k ≤ 73) (leb 7 n && (leb 4 l && 
 most : (first : List ℕ) → replySize first ≤ 73
 most first = rw (reply-size first) (size-most (length first) (twoAt first 5))
 
-framed : (numbers bytes : ℕ) (p : List ℕ) (id : ℕ) (r : Reply) → readInto numbers bytes p ≡ read.reply id r
-    → (n : ℕ) → 7 ≤ n → n ≤ length p → replySize (take n p) ≡ length p
+-- ---- what is read
+
+read-behind : (numbers bytes : ℕ) (p : List ℕ) (id : ℕ) (r : Reply) → readInto numbers bytes p ≡ read.reply id r → readPacket p ≡ read.reply id r
 unfolding readInto
-framed numbers bytes p id r =
-    cond-by (λ (x : PacketReading). x ≡ read.reply id r → (n : ℕ) → 7 ≤ n → n ≤ length p → replySize (take n p) ≡ length p) (ltb numbers 9 || ltb bytes 16) _ _
-    (λ _ e. let z : _≡_ {A = ℕ} 0 1 = cc in absurd (omega arith)) (λ _ e. read-framed p e)
+read-behind numbers bytes p id r =
+    cond-by (λ (x : PacketReading). x ≡ read.reply id r → readPacket p ≡ read.reply id r) (ltb numbers 9 || ltb bytes 16) _ _
+    (λ _ e. let z : _≡_ {A = ℕ} 0 1 = cc in absurd (omega arith)) (λ _ e. e)
 
 pub refusals : Refusals
-refusals = record { encoder = encoder; reader = λ numbers bytes p. reader p numbers bytes; size = reply-size; most = most; framed = framed }
+refusals = record { encoder = encoder; reader = λ numbers bytes p. reader p numbers bytes; size = reply-size; most = most; framed = λ numbers bytes p id r e. read-framed p (read-behind numbers bytes p id r e); written = λ numbers bytes p id r e. read-written p (read-behind numbers bytes p id r e) }

@@ -9,9 +9,10 @@ use Prim.Native.Nat.{ℕ, _+_, _-_, _≤_}
 use lib.Dec.{ltb, leb, eqb}
 use lib.ListN.{length, getD, take, drop}
 use Rattle.wire.specs.Digits.{twoAt}
-use Rattle.wire.specs.Packet.{xorOf}
+use Rattle.wire.specs.Packet.{xorOf, replyPacket}
 use Rattle.wire.specs.Checks.{Check, firstFailed}
-use Rattle.messages.specs.Message.{Reply}
+use Rattle.messages.specs.Message.{Reply, IsReply}
+use Rattle.messages.specs.Text.{replyType, replyText}
 use Rattle.messages.specs.Read.{replyIn}
 use Rattle.station.specs.Encode as encode
 use Rattle.station.specs.Read as read
@@ -105,3 +106,6 @@ pub record Refusals : Type 0 where
   pub most : (first : List ℕ) → replySize first ≤ 73
   pub framed : (numbers bytes : ℕ) (p : List ℕ) (id : ℕ) (r : Reply) → readInto numbers bytes p ≡ read.reply id r
       → (n : ℕ) → 7 ≤ n → n ≤ length p → replySize (take n p) ≡ length p
+  -- and it is, byte for byte, the packet of the reply that is read, sent by the monitor that is told
+  pub written : (numbers bytes : ℕ) (p : List ℕ) (id : ℕ) (r : Reply) → readInto numbers bytes p ≡ read.reply id r
+      → IsReply r × ((1 ≤ id) × (id ≤ 8)) × (p ≡ replyPacket (0x40 + id) (replyType r) (replyText r))
