@@ -34,6 +34,12 @@ extern "C" {
         bytes_len: usize,
         count: *mut usize,
     ) -> u8;
+    fn station_reply_size(first: *const u8, first_len: usize) -> usize;
+}
+
+// The length that first bytes tell.
+pub fn reply_size(first: &[u8]) -> usize {
+    unsafe { station_reply_size(first.as_ptr(), first.len()) }
 }
 
 // So much memory on both sides of a lent slice is looked at too.

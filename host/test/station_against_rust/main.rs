@@ -1,4 +1,4 @@
-// Compares the proved encoder and reader, called over C, with the plain ones of plain.rs: every result and every byte lent.
+// Compares the proved encoder, reader and reply size, called over C, with the plain ones of plain.rs: every result and every byte lent.
 mod inputs;
 mod library;
 mod plain;
@@ -36,6 +36,13 @@ impl Comparison {
     }
 
     fn reply(&mut self, packet: &[u8], numbers_room: usize, bytes_room: usize) {
+        let first = &packet[..self.random.below(packet.len() + 1)];
+        for bytes in [packet, first] {
+            let (plain, proved) = (plain::reply_size(bytes), library::reply_size(bytes));
+            if plain != proved {
+                differ(&format!("length of {}", hex(bytes)), &plain, &proved);
+            }
+        }
         let pattern = self.random.next() as usize;
         let (numbers, bytes) = (Lent::new(numbers_room, pattern, |n| n as u16), Lent::new(bytes_room, pattern, |n| n as u8));
         let before = Reading { numbers, bytes, count: pattern, result: 255 };

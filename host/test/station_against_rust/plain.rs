@@ -246,6 +246,12 @@ fn message_reply(kind: u8, message: &[u8]) -> Option<Reply> {
     }
 }
 
+// L + 9 by the length digits of the first seven bytes or more; else 0.
+pub fn reply_size(first: &[u8]) -> usize {
+    let l = first.get(5..7).and_then(number).filter(|l| (4..=64).contains(l));
+    l.map_or(0, |l| usize::from(l) + 9)
+}
+
 // The reply with its sender's ID in front of the numbers, or refusal 30 to 35, in that order.
 pub fn read(packet: &[u8]) -> Result<Reply, u8> {
     let size = packet.len();
