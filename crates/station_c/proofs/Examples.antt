@@ -52,7 +52,8 @@ worked-hold =
     unsent refl and unsent refl and unsent refl and unsent refl and unsent refl and unsent refl and unsent refl and unsent refl and
     unsent refl and unsent refl and unsent refl and unsent refl and unsent refl and unsent refl and told refl and told refl and
     told refl and told refl and told refl and told refl and told refl and told refl and told refl and told refl and
-    told refl and told refl and untold refl and untold refl and untold refl and untold refl and untold refl and untold refl and
+    told refl and told refl and told refl and told refl and told refl and told refl and told refl and told refl and
+    untold refl and untold refl and untold refl and untold refl and untold refl and untold refl and untold refl and untold refl and
     untold refl and untold refl and untold refl and untold refl and untold refl and untold refl and untold refl and untold refl and
     untold refl and untold refl and untold refl and untold refl and untold refl and untold refl and untold refl and untold refl and
     untold refl and untold refl and untold refl and untold refl and untold refl and untold refl and untold refl and untold refl and
