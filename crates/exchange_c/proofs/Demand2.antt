@@ -2,6 +2,7 @@
 use Rattle.station_c.proofs.Listed.{listed-back}
 use Rattle.exchange_c.specs.Demand2.{Demand2C}
 use Rattle.exchange_c.proofs.Calls.{passed, arguments}
+use Rattle.exchange_c.proofs.Replies.{replies-told, told-replies}
 use Rattle.exchange_c.proofs.Exchanged.{exchanged}
 use Rattle.exchange_c.proofs.Erase.{erased, erased-by-all}
 use Rattle.exchange_c.proofs.StoredBytes.{bytes-kept}
@@ -13,6 +14,8 @@ demand2 =
       passed = passed;
       arguments = arguments;
       listed-back = listed-back;
+      replies-told = replies-told;
+      told-replies = told-replies;
       exchanged = exchanged;
       erased = erased;
       erased-by-all = erased-by-all;

@@ -11,14 +11,14 @@ use borrow.Author.Tests.{le-ltb, ltb-true, ltb-false}
 use Rattle.messages.specs.Message.Reply.{setReply}
 use Rattle.messages.specs.Text.{requestType}
 use Rattle.calls.specs.Board.{Identity, Answer, waiting, begun, more, after}
-use Rattle.calls.specs.Calls.{isShort, erasing, clearStep, endStep}
+use Rattle.calls.specs.Calls.{isShort, atRest, erasing, clearStep, endStep}
 use Rattle.calls.specs.Lists.{answered, seen, run}
 use Rattle.calls.proofs.Demand.{wiped}
 use Rattle.calls.proofs.Pending.{Pending, pending-first, pending-next, pending-last, pending-step}
 use Rattle.packets.specs.Packets.{holding}
 use Rattle.packets.proofs.IdentityLaws.{Named}
 use Rattle.board.specs.BoardKind.{lastAnswer, lastBuffer, eraseReply, boardKind}
-use Rattle.board.specs.Demand3.{Trace, unusedBytes, eraseRequest}
+use Rattle.board.specs.Demand3.{Events, Trace, unusedBytes, eraseRequest}
 use Rattle.board.specs.ByteCalls.{byteCalls, waits}
 use Rattle.board.proofs.BoardLaws.{board-laws}
 use Rattle.board.proofs.Numbers.{eraseText, erasePacket, request-bytes, unused-bytes}
@@ -35,26 +35,26 @@ use Rattle.exchange_c.proofs.Told.{tellsOf, read-told}
 -- ---- the steps of a pending erase
 
 -- what is seen of r steps and the last, the first of them lent the buffer k
-record Ends (i : Identity) (owed : Bool) (lent : ℕ → List ℕ) (r k : ℕ) (os : Trace) : Type 0 where
+record Ends (i : Identity) (owed : Bool) (lent : ℕ → List ℕ) (es : Events) (r k : ℕ) (os : Trace) : Type 0 where
   before : Trace
   quiet : heard before ≡ untouched lent k (replicate r more)
-  last : os ≡ before ++ (answered (lastAnswer i owed) (lastBuffer i owed (lent (k + r))) unusedBytes ∷ [])
+  last : os ≡ before ++ (answered (lastAnswer i owed) (lastBuffer i owed (lent (k + r))) unusedBytes ∷ run boardKind i (holding i []) unusedBytes es)
 
-module _ (i : Identity) (owed : Bool) (lent : ℕ → List ℕ) (room : (k : ℕ) → 64 ≤ length (lent k)) where
+module _ (i : Identity) (owed : Bool) (lent : ℕ → List ℕ) (room : (k : ℕ) → 64 ≤ length (lent k)) (es : Events) where
   long : (k : ℕ) → isShort (lent k) ≡ false
   unfolding isShort
   long k = le-ltb (length (lent k)) 64 (room k)
 
   -- n steps have run, and r are left before the last
   steps-end : (r n k : ℕ) (m : List ℕ) → n + r ≡ 127 → Pending boardKind i n m
-      → Ends i owed lent r k (run boardKind i (erasing boardKind i (suc n) owed) m (steps lent k (suc r)))
-  unfolding run seen steps heard untouched clearStep endStep erasing wiped
+      → Ends i owed lent es r k (run boardKind i (erasing boardKind i (suc n) owed) m (steps lent k (suc r) ++ es))
+  unfolding run seen steps heard untouched clearStep endStep erasing wiped atRest
   steps-end zero n k m e h =
-      pending-step board-laws (λ o. Ends i owed lent zero k (seen boardKind o m ∷ [])) owed (lent k) h
+      pending-step board-laws (λ o. Ends i owed lent es zero k (seen boardKind o m ∷ run boardKind i (o .state) (after o m) es)) owed (lent k) h
       (λ t. absurd (false≢true (sym (long k) ∙ t))) (λ _ u. absurd (omega (arith, ltb-true n 127 u)))
       (λ _ u. record { before = []; quiet = refl; last = rw (add-zero k, pending-last board-laws h (ltb-false n 127 u), unused-bytes) })
   steps-end (suc r) n k m e h =
-      pending-step board-laws (λ o. Ends i owed lent (suc r) k (seen boardKind o m ∷ run boardKind i (o .state) (after o m) (steps lent (suc k) (suc r))))
+      pending-step board-laws (λ o. Ends i owed lent es (suc r) k (seen boardKind o m ∷ run boardKind i (o .state) (after o m) (steps lent (suc k) (suc r) ++ es)))
       owed (lent k) h
       (λ t. absurd (false≢true (sym (long k) ∙ t)))
       (λ _ u.
@@ -86,13 +86,13 @@ module _ (i : Identity) (m : List ℕ) (ready : Ready i m) where
       let r = rest i m (ready .rests) in
       pending-first (record { named = r .named; size = r .size; marked = r .marked; ranged = r .ranged })
 
-  module _ (dest : ℕ) (owed : Bool) (lent : ℕ → List ℕ) (room : (k : ℕ) → 64 ≤ length (lent k)) where
-    erases : run boardKind i (holding i []) m (byteCalls lent 0 (eraseRequest dest) ++ steps lent 19 128)
-        ≡ waits lent m 0 18 ++ (answered begun (lent 18) (set m 0 0xE7) ∷ run boardKind i (erasing boardKind i 1 owed) (set m 0 0xE7) (steps lent 19 128))
-        → Erases i m (eraseRequest dest) lent (lastAnswer i owed) (lastBuffer i owed (lent 146))
+  module _ (dest : ℕ) (owed : Bool) (lent : ℕ → List ℕ) (room : (k : ℕ) → 64 ≤ length (lent k)) (es : Events) where
+    erases : run boardKind i (holding i []) m (byteCalls lent 0 (eraseRequest dest) ++ (steps lent 19 128 ++ es))
+        ≡ waits lent m 0 18 ++ (answered begun (lent 18) (set m 0 0xE7) ∷ run boardKind i (erasing boardKind i 1 owed) (set m 0 0xE7) (steps lent 19 128 ++ es))
+        → Erases i m (eraseRequest dest) lent es (lastAnswer i owed) (lastBuffer i owed (lent 146))
     unfolding heard untouched
     erases begins =
-        let ends = steps-end i owed lent room 127 0 19 (set m 0 0xE7) refl marked in
+        let ends = steps-end i owed lent room es 127 0 19 (set m 0 0xE7) refl marked in
         let first = answered begun (lent 18) (set m 0 0xE7) in
         record {
           before = waits lent m 0 18 ++ (first ∷ ends .before);
@@ -130,7 +130,7 @@ module _ (i : Identity) (m : List ℕ) (ready : Ready i m) where
         packet = eraseRequest (0x40 + i .id);
         encoded = erase-encoded (i .id) (0x40 + i .id) (own-address i m ready) (omega (arith, n .most));
         sent = eraseReply i;
-        erases = λ lent room. erases i m ready (0x40 + i .id) true lent room (set-erase i m ready .by-id lent room (steps lent 19 128));
+        erases = λ lent room es. erases i m ready (0x40 + i .id) true lent room es (set-erase i m ready .by-id lent room (steps lent 19 128 ++ es));
         is-told = erase-told i n;
       }
 
@@ -140,5 +140,5 @@ module _ (i : Identity) (m : List ℕ) (ready : Ready i m) where
       record {
         packet = eraseRequest 0x2A;
         encoded = erase-encoded 256 0x2A all-address (omega arith);
-        erases = λ lent room. erases i m ready 0x2A false lent room (set-erase i m ready .by-all lent room (steps lent 19 128));
+        erases = λ lent room es. erases i m ready 0x2A false lent room es (set-erase i m ready .by-all lent room (steps lent 19 128 ++ es));
       }

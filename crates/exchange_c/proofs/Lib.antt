@@ -1,5 +1,6 @@
 pub mod Calls
 pub mod Told
+pub mod Replies
 pub mod Exchanged
 pub mod Erase
 pub mod StoredBytes

@@ -35,7 +35,8 @@ use Rattle.board.specs.BoardKind as kind
 use Rattle.board.specs.BoardKind.{Call, byte, gap, onReceipt, startOther, boardKind}
 use Rattle.board.specs.Demand3.{Events}
 use Rattle.exchange.proofs.StoreBytes.{field-bytes, date-bytes, set-bytes, tag-bytes}
-use Rattle.exchange_c.specs.Demand2.{StoresBytes}
+use Rattle.exchange.specs.Rows.{InBytes}
+use Rattle.exchange_c.specs.Demand2.{AllInBytes}
 
 -- ---- the bytes of an unused board
 
@@ -158,13 +159,17 @@ start-by P i m given refused =
 
 -- ---- every list
 
-run-leaves : (i : Identity) (s : BoardState) (m : List ℕ) (es : Events) → Bytes m → StoresBytes (run boardKind i s m es)
-unfolding run StoresBytes seen from
-run-leaves i s m [] h = tt
-run-leaves i s m (call c lent ∷ es) h = let k = call-leaves c s m lent h in (k, run-leaves i _ _ es k)
-run-leaves i s m (step lent ∷ es) h = let k = step-leaves s m lent h in (k, run-leaves i _ _ es k)
-run-leaves i s m (cut ∷ es) h =
-    start-by (λ x. StoresBytes (from boardKind x m (λ s m. started m ∷ run boardKind i s m es))) i m (λ s. (h, run-leaves i s m es h)) (λ n. tt)
+-- the identity is that of the list
+stored : (i : Identity) (m m′ : List ℕ) → InBytes i m → Bytes m′ → InBytes i m′
+stored i m m′ h k = record { serial = h .serial; model = h .model; store = k }
 
-pub bytes-kept : (s : BoardState) (m : List ℕ) (es : Events) → Bytes m → StoresBytes (run boardKind (s .ident) s m es)
+run-leaves : (i : Identity) (s : BoardState) (m : List ℕ) (es : Events) → InBytes i m → AllInBytes i (run boardKind i s m es)
+unfolding run AllInBytes seen from
+run-leaves i s m [] h = tt
+run-leaves i s m (call c lent ∷ es) h = let k = stored i m _ h (call-leaves c s m lent (h .store)) in (k, run-leaves i _ _ es k)
+run-leaves i s m (step lent ∷ es) h = let k = stored i m _ h (step-leaves s m lent (h .store)) in (k, run-leaves i _ _ es k)
+run-leaves i s m (cut ∷ es) h =
+    start-by (λ x. AllInBytes i (from boardKind x m (λ s m. started m ∷ run boardKind i s m es))) i m (λ s. (h, run-leaves i s m es h)) (λ n. tt)
+
+pub bytes-kept : (s : BoardState) (m : List ℕ) (es : Events) → InBytes (s .ident) m → AllInBytes (s .ident) (run boardKind (s .ident) s m es)
 bytes-kept s m es h = run-leaves (s .ident) s m es h

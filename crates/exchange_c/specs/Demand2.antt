@@ -10,8 +10,11 @@ use lib.Dec.{eqb}
 use lib.ListN.{length, take, replicate}
 use Rattle.bitfield.specs.Field.{getField}
 use Rattle.wire.specs.Digits.{Bytes}
-use Rattle.wire.specs.Packet.{over}
+use Rattle.wire.specs.Packet.{replyPacket, over}
 use Rattle.messages.specs.Message.{Reply, IsRequest, IsItem, replyBytes}
+use Rattle.messages.specs.Message.Reply.{null, getReply, setReply, powerReadReply, powerControlReply, dateReadReply, dateWriteReply, itemReply, tagWriteReply}
+use Rattle.messages.specs.Text.{replyType, replyText}
+use Rattle.messages.specs.declared.message.Date.{Date}
 use Rattle.calls.specs.Board.{Identity, Answer, waiting, silent, begun, more, ended, reply}
 use Rattle.calls.specs.Lists.{step, answered, started, unstarted, run}
 use Rattle.packets.specs.Packets.{BoardState, holding}
@@ -19,13 +22,14 @@ use Rattle.board.specs.BoardKind.{boardKind}
 use Rattle.board.specs.Demand3.{Events, Trace, unusedBytes}
 use Rattle.board.specs.ByteCalls.{byteCalls, waits}
 use Rattle.station.specs.Encode.{Encoding, sends, refused}
+use Rattle.station.specs.Read as station
 use Rattle.station.specs.Read.{replySize}
 use Rattle.station_c.specs.Encode.{Call, encodeGet, encodeSet, encodePowerRead, encodePowerControl, encodeDateRead, encodeDateWrite}
 use Rattle.station_c.specs.Encode.{encodeSerialRead, encodeModelRead, encodeTagRead, encodeFormerTagRead, encodeTagWrite}
 use Rattle.station_c.specs.Encode.{requestFor, encodingFor, EncodesForC}
 use Rattle.station_c.specs.Checks.{isTaken}
 use Rattle.station_c.specs.Read.{replyKind, numbersOf, readInto, ReadsForC}
-use Rattle.exchange.specs.Rows.{Ready, Setting, table, shownOf, shownAfter, tagIn, formerTagIn, heard}
+use Rattle.exchange.specs.Rows.{InBytes, Ready, Setting, table, shownOf, shownAfter, tagIn, formerTagIn, heard}
 
 -- ---- what C passes
 
@@ -193,37 +197,59 @@ unfoldable pub untouched : (ℕ → List ℕ) → ℕ → List (Answer ℕ) → 
 untouched lent k [] = []
 untouched lent k (a ∷ rest) = (a, lent k) ∷ untouched lent (suc k) rest
 
--- A packet and 128 steps behind it: the board waits, says that the erase began, and 127 times that there is more, while nothing is sent. With the last
--- step this is seen, and the store is an unused board's.
-pub record Erases (i : Identity) (m packet : List ℕ) (lent : ℕ → List ℕ) (last : Answer ℕ) (buffer : List ℕ) : Type 0 where
+-- A packet, 128 steps behind it and whatever comes then: the board waits, says that the erase began, and 127 times that there is more, while nothing is
+-- sent. With the last step this is seen, the store is an unused board's, and the board rests.
+pub record Erases (i : Identity) (m packet : List ℕ) (lent : ℕ → List ℕ) (es : Events) (last : Answer ℕ) (buffer : List ℕ) : Type 0 where
   pub before : Trace
   pub quiet : heard before ≡ untouched lent 0 (replicate (length packet - 1) waiting ++ (begun ∷ replicate 127 more))
-  pub seen : run boardKind i (holding i []) m (byteCalls lent 0 packet ++ steps lent (length packet) 128)
-      ≡ before ++ (answered last buffer unusedBytes ∷ [])
+  pub seen : run boardKind i (holding i []) m (byteCalls lent 0 packet ++ (steps lent (length packet) 128 ++ es))
+      ≡ before ++ (answered last buffer unusedBytes ∷ run boardKind i (holding i []) unusedBytes es)
 
 -- the erase encoded to the board's ID: the reply comes with the 128th step
 pub record ErasesById (i : Identity) (m : List ℕ) : Type 0 where
   pub packet : List ℕ
   pub encoded : Encoded (i .id) (encodeSet 0xF0 0x01 1) packet
   pub sent : List ℕ
-  pub erases : (lent : ℕ → List ℕ) → ((k : ℕ) → 64 ≤ length (lent k))
-      → Erases i m packet lent (reply (length sent)) (over sent (lent (length packet + 127)))
+  pub erases : (lent : ℕ → List ℕ) → ((k : ℕ) → 64 ≤ length (lent k)) → (es : Events)
+      → Erases i m packet lent es (reply (length sent)) (over sent (lent (length packet + 127)))
   pub is-told : IsTold sent (told 103 (i .id ∷ 0 ∷ 0xF0 ∷ 0x01 ∷ 1 ∷ 1 ∷ 1 ∷ []) [])
 
 -- and to ALL: it ends in silence
 pub record ErasesToAll (i : Identity) (m : List ℕ) : Type 0 where
   pub packet : List ℕ
   pub encoded : Encoded 256 (encodeSet 0xF0 0x01 1) packet
-  pub erases : (lent : ℕ → List ℕ) → ((k : ℕ) → 64 ≤ length (lent k)) → Erases i m packet lent ended (lent (length packet + 127))
+  pub erases : (lent : ℕ → List ℕ) → ((k : ℕ) → 64 ≤ length (lent k)) → (es : Events)
+      → Erases i m packet lent es ended (lent (length packet + 127))
 
 -- ---- bytes
 
--- every stored byte that is seen is a byte
-unfoldable pub StoresBytes : Trace → Type 0
-StoresBytes [] = Unit {0}
-StoresBytes (answered a lent m ∷ os) = Bytes m × StoresBytes os
-StoresBytes (started m ∷ os) = Bytes m × StoresBytes os
-StoresBytes (unstarted n ∷ os) = StoresBytes os
+-- with each store that is seen, a board's identity and store are bytes
+unfoldable pub AllInBytes : Identity → Trace → Type 0
+AllInBytes i [] = Unit {0}
+AllInBytes i (answered a lent m ∷ os) = InBytes i m × AllInBytes i os
+AllInBytes i (started m ∷ os) = InBytes i m × AllInBytes i os
+AllInBytes i (unstarted n ∷ os) = AllInBytes i os
+
+-- ---- replies
+
+-- What a reply may hold: results, statuses and operation types 0 or 1, modes 1, 2 or 4 in a power status, and else any number of two or four digits
+-- and at most 16 bytes.
+abbrev pub MayHoldDate : Date → Type 0
+MayHoldDate d =
+    (d .year < 256) × (d .month < 256) × (d .day < 256) × (d .weekday < 256) × (d .hour < 256) × (d .minute < 256) × (d .daylight < 256)
+
+abbrev pub MayHold : Reply → Type 0
+MayHold null = Unit {0}
+MayHold (getReply result page code operation largest value) =
+    (result ≤ 1) × (page < 256) × (code < 256) × (operation ≤ 1) × (largest < 65536) × (value < 65536)
+MayHold (setReply result page code operation largest value) =
+    (result ≤ 1) × (page < 256) × (code < 256) × (operation ≤ 1) × (largest < 65536) × (value < 65536)
+MayHold (powerReadReply status mode) = (status ≤ 1) × ((mode ≡ 1) ⊎ ((mode ≡ 2) ⊎ (mode ≡ 4)))
+MayHold (powerControlReply status mode) = (status ≤ 1) × (mode < 65536)
+MayHold (dateReadReply d) = MayHoldDate d
+MayHold (dateWriteReply status d) = (status ≤ 1) × MayHoldDate d
+MayHold (itemReply i bytes) = (length bytes ≤ 16) × Bytes bytes
+MayHold (tagWriteReply status tag) = (status ≤ 1) × ((length tag ≤ 16) × Bytes tag)
 
 -- ---- demand 2
 
@@ -237,6 +263,10 @@ pub record Demand2C : Type 0 where
       → encodingFor room dest c ≡ sends packet → encodingFor room′ dest′ c′ ≡ sends packet → (dest ≡ dest′) × (c ≡ c′)
   -- a kind, numbers and bytes are those of one reply
   pub listed-back : (x y : Reply) → replyKind x ≡ replyKind y → numbersOf x ≡ numbersOf y → replyBytes x ≡ replyBytes y → x ≡ y
+  -- every reply that may be, from every monitor, is told with its values, and no other
+  pub replies-told : (id : ℕ) (r : Reply) → 1 ≤ id → id ≤ 8 → MayHold r
+      → IsTold (replyPacket (0x40 + id) (replyType r) (replyText r)) (told (replyKind r) (id ∷ numbersOf r) (replyBytes r))
+  pub told-replies : (numbers bytes : ℕ) (packet : List ℕ) (id : ℕ) (r : Reply) → readInto numbers bytes packet ≡ station.reply id r → MayHold r
   -- every call but the erase's, to every board at rest
   pub exchanged : (i : Identity) (m : List ℕ) → Ready i m → (c : Call) → IsPassed c → isTaken c ≡ true → isEraseCall c ≡ false → Exchanged i m c
   -- the erase's
@@ -244,5 +274,5 @@ pub record Demand2C : Type 0 where
   pub erased-by-all : (i : Identity) (m : List ℕ) → Ready i m → ErasesToAll i m
   -- every unused board is at rest, its identity being in range and bytes
   pub unused-ready : (i : Identity) → 1 ≤ i .id → i .id ≤ 8 → IsItem (i .serial) → IsItem (i .model) → Ready i unusedBytes
-  -- a board whose store is bytes keeps it so, whatever list of calls, steps and cuts it gets
-  pub bytes-kept : (s : BoardState) (m : List ℕ) (es : Events) → Bytes m → StoresBytes (run boardKind (s .ident) s m es)
+  -- a board whose identity and store are bytes keeps them so, whatever list of calls, steps and cuts it gets
+  pub bytes-kept : (s : BoardState) (m : List ℕ) (es : Events) → InBytes (s .ident) m → AllInBytes (s .ident) (run boardKind (s .ident) s m es)
