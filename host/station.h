@@ -31,7 +31,7 @@ extern "C" {
 #define STATION_NUMBERS_ROOM 9 /* numbers */
 #define STATION_BYTES_ROOM 16  /* bytes */
 
-/* A reply's first bytes tell its length once there are so many; no reply is longer than the most. */
+/* A reply's first bytes tell its length once there are STATION_HEADER_BYTES; no reply is longer than STATION_REPLY_MOST. */
 #define STATION_HEADER_BYTES 7
 #define STATION_REPLY_MOST 73
 
@@ -116,8 +116,8 @@ uint8_t station_encode_former_tag_read(uint16_t dest, uint8_t *out, size_t out_l
 uint8_t station_encode_tag_write(uint16_t dest, const uint8_t *tag, size_t tag_len, uint8_t *out, size_t out_len, size_t *size);
 
 /*
- * Where a reply ends: how many bytes a packet has whose first bytes these are, 13 to STATION_REPLY_MOST. The length digits at
- * first[5] and first[6] decide; a CR, 03h or 01h before that is a byte like others, for a check code may be one.
+ * Where a reply ends: how many bytes a packet has whose first bytes these are, 13 to STATION_REPLY_MOST. It is L + 9
+ * for the length digits L, first[5] and first[6]; a CR, 03h or 01h before the end is a byte like others, for a check code may be one.
  *
  * 0 while there are fewer than STATION_HEADER_BYTES, and from then on where the length digits are bad or outside 4 to 64: nothing
  * tells then where the packet ends. No other byte is looked at, so a packet that is no reply has its length too.

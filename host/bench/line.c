@@ -1,4 +1,4 @@
-/* Requests and replies over a port; station.h tells where a reply ends. */
+/* Requests and replies over a port; station_reply_size tells where a reply ends. */
 #include "line.h"
 
 #include "deadline.h"
