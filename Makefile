@@ -26,11 +26,12 @@ OBJECTS = $(OUT)/objects
 BENCH_PARTS = bench command deadline decode erase fields help inside line options port port_serial port_tcp reply request say show \
         talk words
 BOARDSIM_PARTS = boardsim end line options
+COMMON_OBJECTS = $(OBJECTS)/common/standard_files.o
 # The simulated board that both programs have.
 SIMULATION_PARTS = sim store_file
 SIMULATION_OBJECTS = $(SIMULATION_PARTS:%=$(OBJECTS)/simulation/%.o)
-BENCH_OBJECTS = $(BENCH_PARTS:%=$(OBJECTS)/bench/%.o) $(SIMULATION_OBJECTS)
-BOARDSIM_OBJECTS = $(BOARDSIM_PARTS:%=$(OBJECTS)/boardsim/%.o) $(SIMULATION_OBJECTS)
+BENCH_OBJECTS = $(BENCH_PARTS:%=$(OBJECTS)/bench/%.o) $(SIMULATION_OBJECTS) $(COMMON_OBJECTS)
+BOARDSIM_OBJECTS = $(BOARDSIM_PARTS:%=$(OBJECTS)/boardsim/%.o) $(SIMULATION_OBJECTS) $(COMMON_OBJECTS)
 CRATE_FILES := crates.txt $(shell find crates -name must-fail -prune -o -type f -print)
 
 .PHONY: all run test install clean

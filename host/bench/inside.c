@@ -15,31 +15,39 @@ static const char serial[] = "SIM-0001", model[] = "SIMULATED";
 struct inside {
     struct sim sim;
     uint8_t unused[SIM_STORE_SIZE];    /* the store, where there is no file */
-    struct store_file file;            /* closed where there is none */
+    const char *name;                  /* the store file's; null where there is none */
+    struct store_file file;            /* the file of that name */
+    bool is_off;                       /* nothing more could be stored in it, and the board is silent since */
     uint8_t out[2 * BOARD_REPLY_ROOM]; /* replies that were not taken yet, from out_at to out_end */
     size_t out_at, out_end;
 };
+
+/* Writes what a call has stored; gives its answer, or a refusal where that can't be written. */
+static uint8_t kept(struct inside *inside, uint8_t answer)
+{
+    enum store_file_status status = inside->name != NULL ? store_file_keep(&inside->file) : STORE_FILE_OPEN;
+
+    if (status == STORE_FILE_OPEN)
+        return answer;
+    say_note("the store '%s' can't be used any more: %s; the simulated board is off", inside->name, store_file_text(status));
+    inside->is_off = true;
+    return BOARD_REFUSED;
+}
 
 /* What follows from an answer: a reply is kept for the line, and an erase runs to its end. */
 static void follow(struct inside *inside, uint8_t answer)
 {
     struct sim *sim = &inside->sim;
 
-    if (answer == BOARD_BEGUN)
-        answer = BOARD_MORE;
+    answer = kept(inside, answer == BOARD_BEGUN ? BOARD_MORE : answer);
     while (answer == BOARD_MORE)
-        answer = sim_step(sim);
+        answer = kept(inside, sim_step(sim));
     if (inside->out_at == inside->out_end)
         inside->out_at = inside->out_end = 0;
     if (answer == BOARD_REPLY && sim->reply_len <= sizeof inside->out - inside->out_end) {
         memcpy(inside->out + inside->out_end, sim->reply, sim->reply_len);
         inside->out_end += sim->reply_len;
     }
-}
-
-static uint8_t *store_of(struct inside *inside)
-{
-    return inside->file.bytes != NULL ? inside->file.bytes : inside->unused;
 }
 
 /* Says why there is no board. */
@@ -67,8 +75,9 @@ struct inside *inside_open(const char *store_file)
         status = store_file_open(&inside->file, store_file);
     if (status != STORE_FILE_OPEN)
         return give_up(inside, store_file, store_file_text(status));
-    refusal = sim_start(&inside->sim, store_of(inside), INSIDE_ID, (const uint8_t *)serial, strlen(serial), (const uint8_t *)model,
-                        strlen(model));
+    inside->name = store_file;
+    refusal = sim_start(&inside->sim, store_file != NULL ? inside->file.bytes : inside->unused, INSIDE_ID, (const uint8_t *)serial,
+                        strlen(serial), (const uint8_t *)model, strlen(model));
     if (refusal != 0)
         return give_up(inside, store_file, sim_refusal_text(refusal));
     if (sim_is_erasing(&inside->sim))
@@ -78,7 +87,7 @@ struct inside *inside_open(const char *store_file)
 
 void inside_take(struct inside *inside, const uint8_t *bytes, size_t count)
 {
-    for (size_t i = 0; i < count; i++)
+    for (size_t i = 0; i < count && !inside->is_off; i++)
         follow(inside, sim_byte(&inside->sim, bytes[i]));
 }
 
@@ -97,7 +106,7 @@ void inside_gap(struct inside *inside)
 
 void inside_close(struct inside *inside)
 {
-    if (inside->file.bytes != NULL)
+    if (inside->name != NULL)
         store_file_close(&inside->file);
     free(inside);
 }

@@ -1,14 +1,15 @@
 /*
- * A simulated board on a pseudo-terminal or a TCP port, over a store file that is mapped into memory.
+ * A simulated board on a pseudo-terminal or a TCP port, over a store file.
  *
- * Each byte that the board stores is in the file's pages at once and outlives this program, however it ends: killing it is a power
- * cut, and starting it again is the start after that. One thread waits in poll() for the line, for the silence after a byte and
- * for the next erase step.
+ * What each call stores is in the file before anything else happens, and outlives this program, however it ends: killing it is a
+ * power cut, and starting it again is the start after that. One thread waits in poll() for the line, for the silence after a byte
+ * and for the next erase step.
  *
  * While a reply can't go out because nobody takes it, the line is not read. So at most one reply waits, and none is lost.
  */
 #define _GNU_SOURCE /* pipe2, POLLRDHUP */
 
+#include "common/standard_files.h"
 #include "end.h"
 #include "line.h"
 #include "options.h"
@@ -38,19 +39,18 @@ __attribute__((noreturn)) static void end_refused(const char *path, uint8_t refu
     end_with(STATUS_STORE_REFUSED, "%s: refused with %d: %s. %s", path, refusal, sim_refusal_text(refusal), advice);
 }
 
-/* Opens the store for the program's life. */
-static struct store_file open_store(const char *path)
+/* Ends the program where the store file is not what it has to be. */
+static void check_store(const char *path, enum store_file_status status)
 {
-    struct store_file file;
-    enum store_file_status status = store_file_open(&file, path);
-
     if (status == STORE_FILE_NOT_A_STORE)
         end_refused(path, BOARD_REFUSED_NOT_A_STORE);
     if (status == STORE_FILE_IN_USE)
         end_with(STATUS_SYSTEM, "the store %s is in use by another program: end that one, or name another file", path);
+    if (status == STORE_FILE_CHANGED)
+        end_with(STATUS_STORE_REFUSED,
+                 "another program has changed the store %s, which stays as it is now: end that one, and start again", path);
     if (status != STORE_FILE_OPEN)
-        end_system("can't open the store", path);
-    return file;
+        end_system("can't use the store", path);
 }
 
 /* ---- ending on a signal */
@@ -83,6 +83,7 @@ enum { GAP_MS = 100 };
 
 struct simulator {
     struct options options;
+    struct store_file store;
     struct sim sim;
     int listener;           /* -1 with a pseudo-terminal */
     int line;               /* the pseudo-terminal or the client; -1 where there is no client */
@@ -90,6 +91,7 @@ struct simulator {
     bool holds;             /* the board holds the beginning of a packet */
     bool erasing;           /* the board waits for erase steps */
     int64_t last_byte;      /* when the line gave one, in nanoseconds */
+    int64_t last_moved;     /* when the client came, a byte went either way, or the board was done with an erase */
     int64_t last_step;      /* when an erase step ran or its erase began */
     size_t in_at, in_end;   /* what was read and not yet given to the board */
     size_t out_at, out_end; /* what is to be sent */
@@ -130,11 +132,11 @@ static void say(const struct sim *sim, uint8_t answer)
 /* What follows from an answer, whichever call gave it. */
 static void follow(struct simulator *s, uint8_t answer)
 {
+    check_store(s->options.store, store_file_keep(&s->store));
     if (s->options.verbose)
         say(&s->sim, answer);
-    if (answer == BOARD_REFUSED && s->sim.refusal == BOARD_REFUSED_UNSOUND)
-        end_refused(s->options.store, s->sim.refusal); /* somebody else has changed it */
     s->holds = answer == BOARD_WAITING;
+    s->last_moved = s->erasing ? now() : s->last_moved;
     s->erasing = sim_is_erasing(&s->sim);
     s->last_step = answer == BOARD_BEGUN || answer == BOARD_MORE ? now() : s->last_step;
     if (answer == BOARD_REPLY && s->line >= 0) {
@@ -198,7 +200,7 @@ static void read_line(struct simulator *s)
     s->ended = n == 0;
     s->in_at = 0;
     s->in_end = (size_t)n;
-    s->last_byte = now();
+    s->last_byte = s->last_moved = now();
     feed(s);
 }
 
@@ -208,8 +210,10 @@ static void write_line(struct simulator *s)
 
     if (n < 0 && !try_again(s, "can't write to"))
         drop_client(s);
-    if (n > 0)
+    if (n > 0) {
         s->out_at += (size_t)n;
+        s->last_moved = now();
+    }
     feed(s);
 }
 
@@ -226,6 +230,7 @@ static void take_client(struct simulator *s)
     if (s->line < 0) {
         make_nonblocking(client, "a client's connection");
         s->line = client;
+        s->last_moved = now();
     } else if (close(client) != 0 && errno != ECONNRESET && errno != EINTR) {
         end_system("can't turn away", "a client");
     }
@@ -242,10 +247,21 @@ static int64_t step_due(const struct simulator *s)
     return s->erasing ? s->last_step + (int64_t)s->options.step_ms * 1000000 : INT64_MAX;
 }
 
+/* When a client that says nothing, or takes nothing, has to go for the next one. The board's erase is not its fault. */
+static int64_t leave_due(const struct simulator *s)
+{
+    return s->listener >= 0 && s->line >= 0 && !s->erasing ? s->last_moved + (int64_t)s->options.idle_ms * 1000000 : INT64_MAX;
+}
+
+static int64_t earlier(int64_t one, int64_t other)
+{
+    return one < other ? one : other;
+}
+
 /* How long poll() may wait, in milliseconds, rounded up; -1 for ever. */
 static int poll_timeout(const struct simulator *s)
 {
-    int64_t gap = gap_due(s), step = step_due(s), first = gap < step ? gap : step, time = now();
+    int64_t first = earlier(earlier(gap_due(s), step_due(s)), leave_due(s)), time = now();
 
     if (first == INT64_MAX)
         return -1;
@@ -287,19 +303,21 @@ static bool serve(struct simulator *s)
         take_client(s); /* it waits while one is about to go, which poll() looks at later and so can't miss */
     if (step_due(s) <= now())
         follow(s, sim_step(&s->sim));
-    if (s->ended && !is_sending(s) && !s->erasing)
+    if ((s->ended && !is_sending(s) && !s->erasing) || leave_due(s) <= now())
         drop_client(s);
     return true;
 }
 
 /* ---- the program */
 
-static void start(struct simulator *s, uint8_t *store)
+static void start(struct simulator *s)
 {
     const struct options *o = &s->options;
-    uint8_t refusal = sim_start(&s->sim, store, o->id, (const uint8_t *)o->serial, strlen(o->serial), (const uint8_t *)o->model,
-                                strlen(o->model));
+    uint8_t refusal;
 
+    check_store(o->store, store_file_open(&s->store, o->store));
+    refusal = sim_start(&s->sim, s->store.bytes, o->id, (const uint8_t *)o->serial, strlen(o->serial), (const uint8_t *)o->model,
+                        strlen(o->model));
     if (refusal != 0)
         end_refused(o->store, refusal);
     s->erasing = sim_is_erasing(&s->sim);
@@ -309,19 +327,17 @@ static void start(struct simulator *s, uint8_t *store)
 int main(int argc, char **argv)
 {
     static struct simulator s = {.listener = -1, .line = -1};
-    struct store_file store;
 
+    standard_files_hold();
     s.options = options_in(argc, argv);
     catch_signals();
-    store = open_store(s.options.store);
-    start(&s, store.bytes);
+    start(&s);
     if (s.options.pty)
         s.line = open_pty();
     else
         s.listener = open_listener(s.options.address != NULL ? s.options.address : "127.0.0.1", s.options.port);
     while (serve(&s))
         continue;
-    if (!store_file_close(&store))
-        end_system("can't write the store to", s.options.store);
+    check_store(s.options.store, store_file_close(&s.store));
     return STATUS_DONE;
 }

@@ -9,7 +9,7 @@ struct options {
     const char *store, *serial, *model, *port, *address;
     bool pty, verbose;
     uint8_t id;
-    int step_ms;
+    int step_ms, idle_ms;
 };
 
 /* The options on the command line; wrong ones end the program, and so does --help. */

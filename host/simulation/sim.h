@@ -1,7 +1,7 @@
 /*
  * A simulated board: the calls of board.h with the memory they are lent. It knows no file, no line and no clock.
  *
- * The store belongs to the caller, who may keep it in a file that is mapped into memory. Everything else is lost in a power cut, so
+ * The store belongs to the caller, who may keep it in a file. Everything else is lost in a power cut, so
  * throwing a struct sim away and starting another one on the same store is a cut.
  */
 #ifndef SIM_H

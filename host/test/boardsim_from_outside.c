@@ -131,12 +131,17 @@ static void expect_store(int line, const uint8_t *expected)
 
 #define EXPECT_STORE(expected) expect_store(__LINE__, (expected))
 
-static uint8_t stored_mark(void)
+static uint8_t stored_byte(size_t place)
 {
     uint8_t bytes[200];
 
     REQUIRE(read_store(bytes) == BOARD_STORE_SIZE, "the store file has another size");
-    return bytes[0];
+    return bytes[place];
+}
+
+static uint8_t stored_mark(void)
+{
+    return stored_byte(0);
 }
 
 enum { TRIES = 50000, TRY_US = 200 };
@@ -432,6 +437,9 @@ static void try_usage(void)
     REQUIRE(STATUS(BOARD_1) == 2, "no line");
     REQUIRE(STATUS(BOARD_1, "--pty", "--tcp", "0") == 2, "two lines");
     REQUIRE(STATUS(BOARD_1, "--pty", "--listen", "127.0.0.1") == 2, "--listen with --pty");
+    REQUIRE(STATUS(BOARD_1, "--pty", "--idle-ms", "100") == 2, "--idle-ms with --pty");
+    REQUIRE(STATUS(BOARD_1, "--tcp", "0", "--idle-ms", "0") == 2, "an idle time of 0");
+    REQUIRE(STATUS(BOARD_1, "--pty", "--store", "") == 2, "a store without a name");
     REQUIRE(STATUS(BOARD_1, "--pty", "more") == 2, "a word more");
     REQUIRE(STATUS(BOARD_1, "--pty", "--other") == 2, "another option");
     REQUIRE(STATUS(BOARD_1, "--pty", "-x") == 2, "another letter");
@@ -485,6 +493,132 @@ static void try_stores(void)
     EXPECT_STORE(unused_store());
     stop_board(&child);
     EXPECT_STORE(unused_store());
+}
+
+enum { TOGETHER = 4, ROUNDS = 20 };
+
+/* Whether a board runs and has told its name; where it has ended instead, gives its exit status. */
+static bool has_name(struct child *child, int *status)
+{
+    struct pollfd wait = {.fd = child->out, .events = POLLIN};
+
+    REQUIRE(poll(&wait, 1, 10000) == 1, "boardsim neither told its name nor ended");
+    if ((wait.revents & POLLIN) != 0) {
+        read_name(child);
+        return true;
+    }
+    *status = end_of(child);
+    return false;
+}
+
+/* Boards that are started together on a store that is not there yet: one runs, and what it stores stays. */
+static void try_together(void)
+{
+    char *words[WORDS] = {(char *)program, BOARD_1, "--pty"};
+
+    for (int round = 0; round < ROUNDS; round++) {
+        struct child children[TOGETHER], runs = {0};
+        int running_boards = 0, line;
+
+        remove_store();
+        for (int i = 0; i < TOGETHER; i++)
+            children[i] = start_words("/dev/null", words);
+        for (int i = 0; i < TOGETHER; i++) {
+            int status = 0;
+
+            if (has_name(&children[i], &status)) {
+                running_boards++;
+                runs = children[i];
+            } else {
+                REQUIRE(WIFEXITED(status) && WEXITSTATUS(status) == 3, "boardsim ended with status %X", (unsigned)status);
+            }
+        }
+        REQUIRE(running_boards == 1, "%d boards run on one store", running_boards);
+        line = open_device(&runs);
+        EXCHANGE(line, 'A', "F01141", 'B', "F1110041");
+        REQUIRE(stored_byte(12) == 0x41, "what a board stored is not in the file");
+        close(line);
+        stop_board(&runs);
+    }
+    remove_store();
+}
+
+/* A link that leads nowhere is left alone. */
+static void try_link(void)
+{
+    struct stat about;
+
+    remove_store();
+    REQUIRE(symlink("/no/such/folder/store", store_path) == 0, "can't make a link");
+    REQUIRE(STATUS(BOARD_1, "--pty") == 3, "a link that leads nowhere is taken");
+    REQUIRE(lstat(store_path, &about) == 0 && S_ISLNK(about.st_mode), "a link that leads nowhere is replaced");
+    remove_store();
+}
+
+/* Waits for a board's end, which comes by itself, and gives its exit status. */
+static int ended_by_itself(struct child *child)
+{
+    int status = end_of(child);
+
+    REQUIRE(WIFEXITED(status), "boardsim ended with status %X", (unsigned)status);
+    return WEXITSTATUS(status);
+}
+
+/* A store that another program cuts or changes while a board runs on it is noticed before anything is stored, and left as it is. */
+static void try_changed_stores(void)
+{
+    uint8_t bytes[200], changed[BOARD_STORE_SIZE];
+    struct child child = START("/dev/null", "--pty");
+    int line = open_device(&child);
+
+    REQUIRE(truncate(store_path, 100) == 0, "can't cut the store");
+    send_request(line, 'A', 'E', "00100064");
+    REQUIRE(ended_by_itself(&child) == 1, "a store that was cut");
+    REQUIRE(read_store(bytes) == 100, "a store that was cut is changed");
+    close(line);
+    remove_store();
+    child = START("/dev/null", "--pty");
+    line = open_device(&child);
+    memcpy(changed, unused_store(), sizeof changed);
+    changed[100] = 1;
+    write_store(changed, sizeof changed);
+    send_request(line, 'A', 'E', "00100064");
+    REQUIRE(ended_by_itself(&child) == 1, "a store that was changed");
+    EXPECT_STORE(changed);
+    close(line);
+    remove_store();
+    child = START("/dev/null", "--pty");
+    REQUIRE(truncate(store_path, 0) == 0 && kill(child.pid, SIGTERM) == 0, "can't cut the store");
+    REQUIRE(ended_by_itself(&child) == 1, "a store that was cut, at the end");
+    remove_store();
+}
+
+/* A client that moves no byte has to go, so that the next is served; the time of an erase does not count. */
+static void try_idle_clients(void)
+{
+    const struct packet request = packet_of('A', '0', 'C', "0010");
+    struct child child = START(NULL, "--tcp", "0", "--idle-ms", "400", "--step-ms", "8");
+    int line = open_connection(&child);
+    uint8_t byte;
+
+    EXCHANGE(line, 'C', "0010", 'D', backlight_unused);
+    REQUIRE(receive(line, &byte, 1) == 0, "an idle client is kept");
+    close(line);
+    line = open_connection(&child);
+    REQUIRE(receive(line, &byte, 1) == 0, "a client that never says a thing is kept");
+    close(line);
+    line = open_connection(&child);
+    EXCHANGE(line, 'E', erase_text, 'F', erase_reply); /* it takes a second */
+    EXCHANGE(line, 'C', "0010", 'D', backlight_unused);
+    for (ssize_t sent = 0; sent >= 0;) /* until nothing more can be sent, since no reply is taken */
+        sent = write(line, request.bytes, request.size);
+    REQUIRE(errno == EAGAIN, "can't send");
+    wait_ms(1500);
+    close(line);
+    line = open_connection(&child);
+    EXCHANGE(line, 'C', "0010", 'D', backlight_unused);
+    close(line);
+    stop_board(&child);
 }
 
 /* One client at a time: a second one is turned away; when the first has gone, the next is served. */
@@ -684,7 +818,11 @@ static void try_behaviour(void)
 {
     try_usage();
     try_stores();
+    try_together();
+    try_link();
+    try_changed_stores();
     try_clients();
+    try_idle_clients();
     try_gaps();
     try_many_requests();
     try_erases();
