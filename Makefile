@@ -23,8 +23,8 @@ BOARD = target/staticlib/libboard_c.a
 
 # Each folder of host has its objects in a folder of its own, for a file in another may have the same name.
 OBJECTS = $(OUT)/objects
-BENCH_PARTS = bench command deadline decode erase fields help inside line options port port_serial port_tcp reply request say show \
-        talk words
+BENCH_PARTS = bench command deadline decode echo erase fields help identity inside json line options port port_serial port_tcp \
+        progress read_back reply request say show talk unused verdict words
 BOARDSIM_PARTS = boardsim end line options
 COMMON_OBJECTS = $(OBJECTS)/common/standard_files.o
 # The simulated board that both programs have.
@@ -45,8 +45,8 @@ $(OUT)/bench: $(BENCH_OBJECTS) $(STATION) $(BOARD)
 $(OUT)/boardsim: $(BOARDSIM_OBJECTS) $(BOARD)
 	$(CC) $(CFLAGS) -o $@ $^
 
-# Answers bench with any bytes, for host/test/check_bench.
-$(OUT)/bench_peer: $(OBJECTS)/test/bench_peer.o
+# For the tests of bench: a peer that answers with any bytes, and a line that can be cut, moved and can lie.
+$(OUT)/bench_peer $(OUT)/bench_line: $(OUT)/%: $(OBJECTS)/test/%.o
 	$(CC) $(CFLAGS) -o $@ $^
 
 $(OBJECTS)/%.o: host/%.c $(wildcard host/*.h host/*/*.h)

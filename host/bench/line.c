@@ -36,11 +36,11 @@ static void keep_stray(const struct line *line, struct stray *stray, uint8_t b)
     stray->bytes[stray->count++] = b;
 }
 
-/* Takes a byte as port_byte does, and tells each second that passes since `began`. */
-static enum heard patient_byte(struct line *line, uint8_t *b, long long began, long long until)
+/* Takes a byte as port_byte does, and tells each second that passes. */
+static enum heard patient_byte(struct line *line, uint8_t *b, long long until)
 {
     for (;;) {
-        long long passed = (now_ms() - began) / 1000, next = began + (passed + 1) * 1000;
+        long long passed = (now_ms() - line->since) / 1000, next = line->since + (passed + 1) * 1000;
         bool ticks = line->each_second != NULL && line->port.inside == NULL && next < until;
         enum heard heard = port_byte(&line->port, b, ticks ? next : until);
 
@@ -53,8 +53,10 @@ static enum heard patient_byte(struct line *line, uint8_t *b, long long began, l
 /*
  * Receives one packet: skips what does not begin with 01h, then takes as many bytes as the length digits say. Where they are bad,
  * the packet is what comes until the line rests. A packet that is not whole at `until` stays so; its length is 0 where none came.
+ * HEARD_BYTE with no packet says that other bytes still came at `until`. `rests` ends the wait, and a packet, as soon as the line
+ * rests.
  */
-static enum heard receive(struct line *line, struct packet *packet, long long began, long long until)
+static enum heard receive(struct line *line, struct packet *packet, bool rests, long long until)
 {
     struct stray stray = {.count = 0};
     enum heard heard;
@@ -64,14 +66,13 @@ static enum heard receive(struct line *line, struct packet *packet, long long be
     for (;;) {
         bool is_bad = packet->len >= STATION_HEADER_BYTES && station_reply_size(packet->bytes, packet->len) == 0;
 
-        heard = patient_byte(line, &b, began, is_bad ? now_ms() + REST_MS : until);
+        heard = patient_byte(line, &b, is_bad || rests ? now_ms() + REST_MS : until);
         if (heard != HEARD_BYTE)
             break;
         if (packet->len == 0 && b != SOH) {
             keep_stray(line, &stray, b);
             if (now_ms() < until)
                 continue;
-            heard = HEARD_NOTHING; /* the time is over, though bytes still come */
             break;
         }
         flush_stray(line, &stray);
@@ -81,6 +82,27 @@ static enum heard receive(struct line *line, struct packet *packet, long long be
     }
     flush_stray(line, &stray);
     return heard;
+}
+
+enum came line_hear(struct line *line, struct packet *packet, long long until)
+{
+    enum heard heard = receive(line, packet, false, until);
+
+    if (packet->len > 0)
+        return CAME_PACKET;
+    return heard == HEARD_END ? CAME_END : CAME_NOTHING;
+}
+
+enum came line_rest(struct line *line, struct packet *packet, long long until)
+{
+    enum heard heard = receive(line, packet, true, until);
+
+    if (packet->len > 0)
+        return CAME_PACKET;
+    if (heard != HEARD_NOTHING)
+        return heard == HEARD_END ? CAME_END : CAME_NOTHING;
+    port_tell_gap(&line->port);
+    return CAME_SILENCE;
 }
 
 /* ---- what goes */
@@ -99,18 +121,24 @@ static void rest(struct line *line)
     line->is_rested = true;
 }
 
-static bool send_packet(struct line *line, const struct packet *packet)
+bool line_send(struct line *line, const struct packet *packet)
 {
-    if (!line->is_rested)
-        rest(line);
     if (line->verbose)
         say_bytes("->", packet->bytes, packet->len, NULL);
     return port_send(&line->port, packet->bytes, packet->len, now_ms() + SEND_MS);
 }
 
+/* Sends a request on a line that rests. */
+static bool send_rested(struct line *line, const struct packet *packet)
+{
+    if (!line->is_rested)
+        rest(line);
+    return line_send(line, packet);
+}
+
 bool line_tell(struct line *line, const struct packet *packet)
 {
-    bool sent = send_packet(line, packet);
+    bool sent = send_rested(line, packet);
 
     rest(line); /* the bytes leave before the port is closed */
     return sent;
@@ -121,16 +149,16 @@ bool line_tell(struct line *line, const struct packet *packet)
 /* Receives packets until one answers the request, is damaged, or the time is over. */
 static enum ending await(struct line *line, const struct request *request, long long limit_ms, struct exchange *exchange)
 {
-    long long began = now_ms(), until = began + limit_ms;
+    long long until = now_ms() + limit_ms;
     enum ending ending = ENDED_SILENT;
 
     for (;;) {
         struct packet packet;
-        enum heard heard = receive(line, &packet, began, until);
+        enum came came = line_hear(line, &packet, until);
         bool is_good;
 
-        if (packet.len == 0)
-            return heard == HEARD_END ? ENDED_CLOSED : ending;
+        if (came != CAME_PACKET)
+            return came == CAME_END ? ENDED_CLOSED : ending;
         exchange->packet = packet;
         is_good = reply_read(&exchange->reply, packet.bytes, packet.len);
         if (is_good && !request_is_answered(request, &exchange->reply))
@@ -149,7 +177,7 @@ void line_exchange(struct line *line, const struct request *request, const struc
 {
     memset(exchange, 0, sizeof *exchange);
     exchange->ending = ENDED_UNSENT;
-    if (send_packet(line, packet))
+    if (send_rested(line, packet))
         exchange->ending = await(line, request, limit_ms, exchange);
     line->is_rested = exchange->ending == ENDED_ANSWERED;
 }

@@ -1,5 +1,5 @@
 /*
- * Requests and replies over a port: one request is sent, and replies are cut out of what comes by their length digits.
+ * Requests and replies over a port: requests are sent, and replies are cut out of what comes by their length digits.
  */
 #ifndef LINE_H
 #define LINE_H
@@ -12,9 +12,27 @@ struct line {
     struct port port;
     bool verbose;                                   /* show the bytes both ways */
     bool is_rested;                                 /* nothing unexpected can arrive, and the board holds no half packet */
-    void (*each_second)(long seconds, void *about); /* told while a reply is awaited; may be null */
+    void (*each_second)(long seconds, void *about); /* told while the line is listened to; may be null */
     void *about;
+    long long since; /* the moment from which the seconds are counted */
 };
+
+/* What listening gave. */
+enum came {
+    CAME_PACKET,  /* what began with 01h; whole or not, good or not */
+    CAME_SILENCE, /* the line rested: nothing came for 120 ms, after which a board has forgotten half a packet */
+    CAME_NOTHING, /* until the moment that was named */
+    CAME_END      /* the line is closed or broken */
+};
+
+/* Waits for a packet, at most until the moment `until`. It never gives CAME_SILENCE. */
+enum came line_hear(struct line *line, struct packet *packet, long long until);
+
+/* Waits for the line to rest, at most until the moment `until`; gives each packet that comes before. */
+enum came line_rest(struct line *line, struct packet *packet, long long until);
+
+/* Sends an encoded request at once; says whether it went out whole. */
+bool line_send(struct line *line, const struct packet *packet);
 
 /* How an exchange ended. */
 enum ending {

@@ -81,9 +81,9 @@ enum status options_read(int argc, char **argv, struct options *options)
     }
     options->words = argv + optind;
     options->count = argc - optind;
-    if (status == STATUS_DONE && options->store != NULL && options->port != NULL)
-        status = say_usage("leave -p or --store out", "--store is for the simulated board inside bench, which is used without -p");
     if (status == STATUS_DONE && !options->help && options->count == 0)
         status = say_usage("type for example: bench -p /dev/ttyUSB0 -i 1 serial", "a command is missing");
+    for (int i = 1; status != STATUS_DONE && i < argc; i++)
+        options->json = options->json || strcmp(argv[i], "--json") == 0; /* what is wrong may stand in front of it */
     return status;
 }

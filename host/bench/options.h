@@ -8,8 +8,8 @@
 #include <stdint.h>
 
 struct options {
-    const char *port;   /* null: the simulated board inside the process */
-    const char *store;  /* its store file; may be null */
+    const char *port;   /* null: none was named */
+    const char *store;  /* the store file of the simulated board; may be null */
     uint16_t dest;      /* 1 to 8, or STATION_ALL */
     long long limit_ms; /* the time limit for a reply; 0: the usual one */
     bool json, verbose, yes, help;

@@ -11,16 +11,42 @@
 #include <string.h>
 #include <unistd.h>
 
+enum { RECONNECT_MS = 200 };
+
+/* What stands in front of a host's name. */
+static const char tcp[] = "tcp:";
+
+static bool is_tcp(const char *name)
+{
+    return strncmp(name, tcp, strlen(tcp)) == 0;
+}
+
 enum status port_open(struct port *port, const char *name, const char *store, long long limit_ms)
 {
     memset(port, 0, sizeof *port);
+    port->name = name;
     port->fd = -1;
-    if (name != NULL && strncmp(name, "tcp:", 4) == 0)
-        return port_open_tcp(name + 4, limit_ms, &port->fd);
-    if (name != NULL)
+    if (is_tcp(name))
+        return port_open_tcp(name + strlen(tcp), limit_ms, &port->fd);
+    if (strcmp(name, PORT_SIMULATED) != 0)
         return port_open_serial(name, &port->fd);
     port->inside = inside_open(store);
     return port->inside != NULL ? STATUS_DONE : STATUS_NO_REPLY;
+}
+
+bool port_reopen(struct port *port, long long until)
+{
+    if (!is_tcp(port->name))
+        return false;
+    if (port->fd >= 0)
+        close(port->fd);
+    port->in_at = port->in_end = 0;
+    for (;;) {
+        port->fd = port_connect(port->name + strlen(tcp), until);
+        if (port->fd >= 0 || now_ms() >= until)
+            return port->fd >= 0;
+        poll(NULL, 0, RECONNECT_MS);
+    }
 }
 
 /* Whether a read or write that failed may work a little later. */

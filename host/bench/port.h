@@ -12,8 +12,12 @@
 
 struct inside;
 
+/* The name of the simulated board inside the process. */
+#define PORT_SIMULATED "sim"
+
 struct port {
-    int fd;                /* -1 where the board is inside the process */
+    const char *name;
+    int fd;                /* -1 where the board is inside the process, or the line has ended */
     struct inside *inside; /* null where it is not */
     uint8_t in[256];       /* what came and was not taken yet, from in_at to in_end */
     size_t in_at, in_end;
@@ -27,11 +31,18 @@ enum heard {
 };
 
 /*
- * Opens the port of this name: "tcp:HOST" or "tcp:HOST:NUMBER", a serial device, or for a null pointer the simulated board, on the
+ * Opens the port of this name: "tcp:HOST" or "tcp:HOST:NUMBER", a serial device, or PORT_SIMULATED for the simulated board, on the
  * store file `store` or, where that is null, on an unused store that is lost at the end. Gives STATUS_DONE, or says why not.
  * limit_ms bounds the wait for a TCP connection; looking up a host's name takes as long as the system lets it.
  */
 enum status port_open(struct port *port, const char *name, const char *store, long long limit_ms);
+
+/*
+ * Makes a TCP connection anew, and drops what came on the old one; tries until the moment `until`, and says whether there is one. A
+ * board's power cut ends its connection. It does not end a serial line, and so a serial device is not opened again: whoever pulled
+ * its plug has to look.
+ */
+bool port_reopen(struct port *port, long long until);
 
 /* Sends bytes; says whether all went out before the moment `until`. */
 bool port_send(struct port *port, const uint8_t *bytes, size_t count, long long until);
@@ -47,5 +58,8 @@ void port_close(struct port *port);
 /* For port_open: each opens its kind of port. */
 enum status port_open_serial(const char *device, int *fd);
 enum status port_open_tcp(const char *host_and_port, long long limit_ms, int *fd);
+
+/* For port_reopen: connects as port_open_tcp does, and says nothing. Gives -1 where there is no connection. */
+int port_connect(const char *host_and_port, long long until);
 
 #endif

@@ -15,6 +15,12 @@ unsigned reply_sender(const struct reply *reply)
     return reply->numbers[0];
 }
 
+bool reply_is(const struct reply *one, const struct reply *other)
+{
+    return one->kind == other->kind && memcmp(one->numbers, other->numbers, sizeof one->numbers) == 0 &&
+           one->count == other->count && memcmp(one->bytes, other->bytes, one->count) == 0;
+}
+
 bool reply_is_refusal(const struct reply *reply)
 {
     switch (reply->kind) {

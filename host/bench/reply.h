@@ -26,6 +26,9 @@ bool reply_read(struct reply *reply, const uint8_t *packet, size_t len);
 /* The sender's monitor ID. */
 unsigned reply_sender(const struct reply *reply);
 
+/* Whether two replies say the same. */
+bool reply_is(const struct reply *one, const struct reply *other);
+
 /* Whether the board says that it refused: result or status 01, or the NULL message. */
 bool reply_is_refusal(const struct reply *reply);
 

@@ -9,15 +9,17 @@
 
 /* How bench ends. */
 enum status {
-    STATUS_DONE = 0,
-    STATUS_REFUSED = 1, /* the board refused: result or status 01, or the NULL message */
-    STATUS_USAGE = 2,   /* wrong usage; nothing was sent */
-    STATUS_NO_REPLY = 3 /* no reply, or a bad one */
+    STATUS_DONE = 0,        /* of an erase: erased */
+    STATUS_REFUSED = 1,     /* the board refused: result or status 01, or the NULL message */
+    STATUS_USAGE = 2,       /* wrong usage; nothing was sent */
+    STATUS_NO_REPLY = 3,    /* no reply, or a bad one */
+    STATUS_NOT_ERASED = 4,  /* of an erase: not erased, or not known */
+    STATUS_CONTRADICTED = 5 /* of an erase: the board replied to it, and shows what an unused board does not */
 };
 
 /* A text that grows and never past its room. */
 struct text {
-    char chars[512];
+    char chars[2048];
     size_t len;
 };
 
@@ -32,6 +34,14 @@ __attribute__((format(printf, 4, 5))) enum status say_error(enum status status, 
 
 /* Says wrong usage: what is wrong, that nothing was sent, and what to type instead. Gives STATUS_USAGE. */
 __attribute__((format(printf, 2, 3))) enum status say_usage(const char *todo, const char *format, ...);
+
+/* An error in its three parts. */
+struct error {
+    struct text what, left, todo;
+};
+
+/* The error that was said last. */
+const struct error *say_last_error(void);
 
 /* Says a line that is no error. */
 __attribute__((format(printf, 1, 2))) void say_note(const char *format, ...);

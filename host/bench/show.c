@@ -2,10 +2,10 @@
 #include "show.h"
 
 #include "fields.h"
+#include "json.h"
 #include "words.h"
 
 #include <stdio.h>
-#include <string.h>
 
 /* ---- for people */
 
@@ -110,35 +110,6 @@ void show_list(const struct reply *reply)
 
 /* ---- for programs */
 
-/* Prints bytes as a JSON string whose characters are U+0000 to U+00FF, one a byte. Only ASCII is printed. */
-static void print_json_bytes(const uint8_t *bytes, size_t count)
-{
-    putchar('"');
-    for (size_t i = 0; i < count; i++) {
-        if (bytes[i] == '"' || bytes[i] == '\\')
-            printf("\\%c", bytes[i]);
-        else if (bytes[i] < 0x20 || bytes[i] > 0x7E)
-            printf("\\u%04X", bytes[i]);
-        else
-            putchar(bytes[i]);
-    }
-    putchar('"');
-}
-
-static void print_json_text(const char *key, const char *text)
-{
-    printf(",\"%s\":", key);
-    print_json_bytes((const uint8_t *)text, strlen(text));
-}
-
-static void print_json_hex(const uint8_t *bytes, size_t count)
-{
-    printf(",\"hex\":\"");
-    for (size_t i = 0; i < count; i++)
-        printf("%02X", bytes[i]);
-    putchar('"');
-}
-
 /* Prints the members of a good reply. */
 static void print_json_reply(const struct reply *reply)
 {
@@ -159,7 +130,7 @@ static void print_json_reply(const struct reply *reply)
     if (fields.has_bytes) {
         printf(",\"text\":");
         print_json_bytes(reply->bytes, reply->count);
-        print_json_hex(reply->bytes, reply->count);
+        print_json_hex("hex", reply->bytes, reply->count);
     }
 }
 
@@ -170,13 +141,18 @@ void show_json(const struct reply *reply, const uint8_t *packet, size_t len, uns
     } else {
         printf("{\"refusal\":%u", reply->kind);
         print_json_text("meaning", refusal_meaning(reply->kind));
-        print_json_hex(packet, len);
+        print_json_hex("hex", packet, len);
     }
     if ((remarks & REMARK_SIMULATED) != 0)
         printf(",\"simulated\":true");
-    if ((remarks & REMARK_ERASED) != 0)
-        printf(",\"erased\":true");
     if ((remarks & REMARK_READ_BACK) != 0)
-        printf(",\"read_back\":true");
+        printf(",\"read_back\":true,\"unused\":%s", (remarks & REMARK_UNUSED) != 0 ? "true" : "false");
+    printf("}\n");
+}
+
+void show_error(enum status status)
+{
+    printf("{\"status\":%d", status);
+    print_json_error();
     printf("}\n");
 }

@@ -14,11 +14,14 @@ void show_list(const struct reply *reply);
 /* More members of a JSON object, beside the reply's own. */
 enum remark {
     REMARK_SIMULATED = 1, /* "simulated":true */
-    REMARK_ERASED = 2,    /* "erased":true */
-    REMARK_READ_BACK = 4  /* "read_back":true */
+    REMARK_READ_BACK = 2, /* "read_back":true, and "unused":false where the next is not there */
+    REMARK_UNUSED = 4     /* "unused":true */
 };
 
 /* Prints a packet as one JSON object on a line: the good reply, or the refusal with its meaning and the bytes. */
 void show_json(const struct reply *reply, const uint8_t *packet, size_t len, unsigned remarks);
+
+/* Prints the error that was said last as one JSON object on a line, with the exit status. */
+void show_error(enum status status);
 
 #endif

@@ -5,10 +5,16 @@
 #include "words.h"
 
 #include <stdio.h>
+#include <string.h>
 
 bool talk_is_simulated(const struct bench *bench)
 {
-    return bench->options.port == NULL;
+    return strcmp(bench->options.port, PORT_SIMULATED) == 0;
+}
+
+const char *talk_port_words(const struct bench *bench)
+{
+    return talk_is_simulated(bench) ? "inside bench, not a real set" : bench->options.port;
 }
 
 long long talk_limit(const struct bench *bench, long long usual_ms)
@@ -34,6 +40,12 @@ void talk_close(struct bench *bench)
     port_close(&bench->line.port);
 }
 
+bool talk_reopen(struct bench *bench, long long until)
+{
+    bench->line.is_rested = false;
+    return port_reopen(&bench->line.port, until);
+}
+
 enum status talk_encode(const struct request *request, struct packet *packet)
 {
     uint8_t refusal = request_encode(request, packet);
@@ -52,6 +64,26 @@ enum status talk_ask(struct bench *bench, const struct request *request, long lo
     if (status == STATUS_DONE)
         line_exchange(&bench->line, request, &packet, limit_ms, exchange);
     return status;
+}
+
+long long talk_read_limit(const struct bench *bench)
+{
+    long long limit_ms = talk_limit(bench, REPLY_LIMIT_MS);
+
+    return limit_ms < REPLY_LIMIT_MS ? limit_ms : REPLY_LIMIT_MS;
+}
+
+void talk_read(struct bench *bench, const struct request *request, struct exchange *exchange)
+{
+    for (int tries = 0; tries < 3; tries++) {
+        if (talk_ask(bench, request, talk_read_limit(bench), exchange) != STATUS_DONE) {
+            exchange->ending = ENDED_UNSENT;
+            return;
+        }
+        talk_show_damage(bench, exchange);
+        if (exchange->ending == ENDED_ANSWERED || exchange->ending == ENDED_CLOSED || exchange->ending == ENDED_UNSENT)
+            return;
+    }
 }
 
 /* ---- when there is no answer */

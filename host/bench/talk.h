@@ -26,8 +26,21 @@ enum status talk_ask(struct bench *bench, const struct request *request, long lo
 long long talk_limit(const struct bench *bench, long long usual_ms);
 enum { REPLY_LIMIT_MS = 2000 };
 
+/*
+ * Sends a request that only reads, at most three times, until it is answered; each time it waits no longer than talk_read_limit,
+ * however slow an erase may be.
+ */
+void talk_read(struct bench *bench, const struct request *request, struct exchange *exchange);
+long long talk_read_limit(const struct bench *bench);
+
+/* Connects again where the port is a TCP connection that has ended, at most until the moment `until`; says whether it did. */
+bool talk_reopen(struct bench *bench, long long until);
+
 /* Whether the board is the simulated one inside the process. */
 bool talk_is_simulated(const struct bench *bench);
+
+/* The port in words. */
+const char *talk_port_words(const struct bench *bench);
 
 /* Adds why an exchange has no answer. */
 void talk_add_failure(struct text *text, const struct bench *bench, const struct exchange *exchange, long long limit_ms);
