@@ -179,8 +179,8 @@ static enum part count_replies(const struct erase *e)
 {
     if (e->accepted == 1)
         return PART_DONE;
-    say_note("%s answers, but %s reply to the erase came; one says that a set is erased", e->bench->who.chars,
-             e->accepted == 0 ? "no" : "more than one");
+    say_note("%s answers, but %s", e->bench->who.chars,
+             e->accepted == 0 ? "no reply to the erase came" : "more than one reply to the erase came, and a board sends one");
     return PART_AGAIN;
 }
 
@@ -208,7 +208,7 @@ static enum part send_request(struct erase *e)
 /* ---- what speaks against the reply */
 
 /* Reads back behind the second echo, and sets the verdict. */
-static enum part read_back(struct erase *e)
+static enum part judge(struct erase *e)
 {
     struct read_back found = {.is_closed = false};
     struct text why = {.len = 0};
@@ -243,7 +243,7 @@ static enum part attempt(struct erase *e)
 
     if (part == PART_DONE)
         part = send_request(e);
-    return part == PART_DONE ? read_back(e) : part;
+    return part == PART_DONE ? judge(e) : part;
 }
 
 /* Makes attempts until one ends with a verdict. */

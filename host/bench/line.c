@@ -52,9 +52,9 @@ static enum heard patient_byte(struct line *line, uint8_t *b, long long until)
 
 /*
  * Receives one packet: skips what does not begin with 01h, then takes as many bytes as the length digits say. Where they are bad,
- * the packet is what comes until the line rests. A packet that is not whole at `until` stays so; its length is 0 where none came.
- * HEARD_BYTE with no packet says that other bytes still came at `until`. `rests` ends the wait, and a packet, as soon as the line
- * rests.
+ * the packet is what comes until the line rests. A packet that is not whole at `until` may go on until the line rests, and stays as
+ * it is then; its length is 0 where none came. HEARD_BYTE with no packet says that other bytes still came at `until`. `rests` ends
+ * the wait, and a packet, as soon as the line rests.
  */
 static enum heard receive(struct line *line, struct packet *packet, bool rests, long long until)
 {
@@ -65,8 +65,9 @@ static enum heard receive(struct line *line, struct packet *packet, bool rests, 
     packet->len = 0;
     for (;;) {
         bool is_bad = packet->len >= STATION_HEADER_BYTES && station_reply_size(packet->bytes, packet->len) == 0;
+        long long rested = now_ms() + REST_MS;
 
-        heard = patient_byte(line, &b, is_bad || rests ? now_ms() + REST_MS : until);
+        heard = patient_byte(line, &b, is_bad || rests || (packet->len > 0 && until < rested) ? rested : until);
         if (heard != HEARD_BYTE)
             break;
         if (packet->len == 0 && b != SOH) {

@@ -5,10 +5,10 @@
 #include "identity.h"
 
 enum verdict_kind {
-    VERDICT_ERASED,
-    VERDICT_NOT_ERASED,  /* no erase was sent, or the board refused it */
-    VERDICT_NOT_KNOWN,   /* an erase was sent, and what came of it is not known */
-    VERDICT_CONTRADICTED /* the board replied to the erase, and shows what an unused board does not */
+    VERDICT_NOT_KNOWN,    /* an erase was sent, and what came of it is not known; stands first, for what nobody has set */
+    VERDICT_NOT_ERASED,   /* no erase was sent, or the board refused it */
+    VERDICT_CONTRADICTED, /* the board replied to the erase, and shows what an unused board does not */
+    VERDICT_ERASED
 };
 
 struct verdict {
