@@ -10,8 +10,10 @@
  *   --erase LIST     what becomes of erase requests, one after another between commas, the last for all that follow:
  *                    pass (the board gets it), lose (nobody does), hush (the board gets it, and its reply is lost), or the digits
  * of an answer that comes at once, while nobody gets the request
- *   --reads HOW      what becomes of all other requests but echoes behind the first erase request: pass, silent or null
+ *   --reads HOW      what becomes of all other requests but echoes behind the first erase request: pass, silent or null; with
+ *                    HOW:TEXT of those alone whose text begins so
  *   --move request   the cable moves just before the first erase request, or with --move reply just behind the reply to it
+ *   --drop N         with --tcp: the connection is closed behind the Nth packet to bench
  *   --late MS        what a board sends comes so much later
  *   --twice          each reply comes twice
  *   --noise MS       a byte 55h comes so often
@@ -44,7 +46,7 @@ static const char null_reply[] = "0130304142303402424503010D";
 static struct {
     bool pty, twice, move_at_request, move_at_reply;
     const char *erase, *reads;
-    long late, noise;
+    long drop, late, noise;
     const char *old[8];
     size_t olds;
     char **boards; /* ports, ended by a null pointer */
@@ -116,6 +118,12 @@ static void queue_old(void)
         queue_hex(strchr(told.old[i], ':') + 1, now_ms() + strtol(told.old[i], NULL, 10));
 }
 
+static void leave_bench(void)
+{
+    close(line.bench);
+    line.bench = -1;
+}
+
 /* Sends what is due. Where nobody listens it is gone. */
 static void send_due(void)
 {
@@ -126,6 +134,8 @@ static void send_due(void)
 
         if (line.bench >= 0 && write(line.bench, packet->bytes, packet->len) < 0 && errno != EAGAIN && errno != EPIPE)
             fail("write to bench");
+        if (told.drop > 0 && --told.drop == 0)
+            leave_bench();
     }
     if (told.noise > 0 && line.next_noise <= now_ms()) {
         line.next_noise = now_ms() + told.noise;
@@ -231,13 +241,21 @@ static void take_erase(const struct packet *packet)
         queue_hex(how, now_ms());
 }
 
+/* Whether a request is one that --reads is about. */
+static bool is_told_of(const struct packet *packet)
+{
+    const char *text = strchr(told.reads, ':');
+
+    return line.was_erased && !is_echo(packet) && (text == NULL || has_text(packet, (char)packet->bytes[4], text + 1));
+}
+
 static void take_request(const struct packet *packet)
 {
     if (has_text(packet, 'E', "F0010001"))
         take_erase(packet);
-    else if (!line.was_erased || is_echo(packet) || strcmp(told.reads, "pass") == 0)
+    else if (!is_told_of(packet) || strcmp(told.reads, "pass") == 0)
         send_to_board(packet);
-    else if (strcmp(told.reads, "null") == 0)
+    else if (strncmp(told.reads, "null", 4) == 0)
         queue_hex(null_reply, now_ms());
 }
 
@@ -286,10 +304,8 @@ static void read_bench(void)
     line.heard_bench = now_ms();
     if (n > 0)
         take_bytes(&line.from_bench, bytes, n, take_request);
-    else if (line.listener >= 0 && !(n < 0 && errno == EAGAIN)) {
-        close(line.bench);
-        line.bench = -1;
-    }
+    else if (line.listener >= 0 && !(n < 0 && errno == EAGAIN))
+        leave_bench();
 }
 
 /* ---- the ends */
@@ -371,6 +387,8 @@ static void take_option(const char *name, const char *value)
         told.reads = value;
     else if (strcmp(name, "--move") == 0)
         *(strcmp(value, "reply") == 0 ? &told.move_at_reply : &told.move_at_request) = true;
+    else if (strcmp(name, "--drop") == 0)
+        told.drop = strtol(value, NULL, 10);
     else if (strcmp(name, "--late") == 0)
         told.late = strtol(value, NULL, 10);
     else if (strcmp(name, "--noise") == 0)
