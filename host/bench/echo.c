@@ -36,8 +36,10 @@ static bool take_pair(unsigned *pair)
     uint8_t random[2];
 
     do {
-        if (getentropy(random, sizeof random) != 0)
+        if (getentropy(random, sizeof random) != 0) {
+            say_note("the system gives no random numbers");
             return false;
+        }
         *pair = 256u * random[0] + random[1];
     } while (is_listed(*pair) || is_used[*pair]);
     is_used[*pair] = true;

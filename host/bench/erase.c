@@ -93,17 +93,22 @@ static enum part compare_set(struct erase *e)
         return PART_DONE;
     text_add(&why, "another set is at the line now, with ");
     add_identity(&why, &set);
-    return fail(e, "connect the set that is to be erased and run the erase again; the one at the line now was sent no erase", &why);
+    return fail(e,
+                e->verdict.requests == 0
+                    ? "connect the set that is to be erased and run the erase again; the one at the line now was sent no erase"
+                    : "keep both sets apart, for nobody can tell which of them got the erase; connect the one that is to be erased "
+                      "and run the erase again",
+                &why);
 }
 
-/* Says what is waited for. */
+/* Shows what is waited for. */
 static void begin_wait(struct erase *e, const char *doing, long long limit_ms)
 {
-    e->progress.doing = (struct text){.len = 0};
+    e->progress = (struct progress){.limit_ms = limit_ms};
     text_add(&e->progress.doing, "%s %s", doing, e->bench->who.chars);
     if (e->verdict.requests > 0)
         text_add(&e->progress.doing, ", request %u of %d", e->verdict.requests, ATTEMPTS);
-    progress_begin(&e->progress, &e->bench->line, limit_ms);
+    progress_begin(&e->progress, &e->bench->line);
 }
 
 /* The first echo, and which set is behind it. */
@@ -113,7 +118,7 @@ static enum part meet(struct erase *e)
 
     begin_wait(e, "waiting for", e->limit_ms);
     echo = echo_run(e->bench, e->limit_ms, take_older, e);
-    progress_end(&e->progress, &e->bench->line);
+    progress_end(&e->bench->line);
     return echo == ECHO_ANSWERED ? compare_set(e) : fail_at_echo(e, echo, e->limit_ms);
 }
 
@@ -164,10 +169,11 @@ static enum part fail_refused(struct erase *e)
 {
     struct text why = {.len = 0};
 
-    text_add(&why, e->answer.reply.kind == STATION_REPLY_NULL ? "it does not know the erase (NULL message), as our boards do"
-                                                              : "it refused the erase (result 01)");
+    text_add(&why, e->accepted > 0                              ? "it acknowledged the erase and refused it"
+                   : e->answer.reply.kind == STATION_REPLY_NULL ? "it does not know the erase (NULL message), as our boards do"
+                                                                : "it refused the erase (result 01)");
     fail(e, erase_again, &why);
-    if (e->verdict.requests == 1) {
+    if (e->verdict.requests == 1 && e->accepted == 0) {
         e->verdict.kind = VERDICT_NOT_ERASED;
         e->verdict.left = "everything; a refused erase changes nothing";
     }
@@ -199,13 +205,28 @@ static enum part send_request(struct erase *e)
         echo = echo_run(e->bench, until - now_ms(), take_reply, e);
     if (echo == ECHO_SILENT && e->accepted > 0)
         echo = echo_run(e->bench, e->limit_ms, take_reply, e); /* the reply came in time, and the echo needs its own */
-    progress_end(&e->progress, line);
+    progress_end(line);
     if (e->is_refused)
         return fail_refused(e);
     return echo == ECHO_ANSWERED ? count_replies(e) : fail_at_echo(e, echo, 2 * e->limit_ms);
 }
 
 /* ---- what speaks against the reply */
+
+static enum part contradict(struct erase *e, const struct read_back *found)
+{
+    e->verdict.kind = VERDICT_CONTRADICTED;
+    e->verdict.why = found->differs;
+    if (found->is_other_set) {
+        e->verdict.left = "not known, of two sets: the one at the line now may have been erased in place of the other";
+        e->verdict.todo = "keep both sets apart, connect the one that is to be erased, and run the erase again";
+    } else {
+        e->verdict.left = "not known; what differs is not an unused board's";
+        e->verdict.todo =
+            "keep the set apart and run the erase again; where the same comes back, its board is broken or none of ours";
+    }
+    return PART_OVER;
+}
 
 /* Reads back behind the second echo, and sets the verdict. */
 static enum part judge(struct erase *e)
@@ -217,14 +238,8 @@ static enum part judge(struct erase *e)
     if (e->bench->options.json)
         show_json(&e->answer.reply, e->answer.packet.bytes, e->answer.packet.len, remarks);
     read_back_all(e->bench, &e->verdict.set, &found);
-    if (found.differs.len > 0) {
-        e->verdict.kind = VERDICT_CONTRADICTED;
-        e->verdict.why = found.differs;
-        e->verdict.left = "not known; what differs is not an unused board's";
-        e->verdict.todo = "keep the set apart, look whether this is the set to erase, and run the erase again; where the same "
-                          "comes back, its board is broken or none of ours";
-        return PART_OVER;
-    }
+    if (found.differs.len > 0)
+        return contradict(e, &found);
     if (found.is_closed)
         return PART_LOST;
     if (found.unproved.len > 0) {
@@ -246,28 +261,38 @@ static enum part attempt(struct erase *e)
     return part == PART_DONE ? judge(e) : part;
 }
 
-/* Makes attempts until one ends with a verdict. */
-static void erase_set(struct erase *e)
+static void fail_closed(struct erase *e)
 {
     struct text why = {.len = 0};
 
-    for (int i = 1; i <= ATTEMPTS; i++) {
+    text_add(&why, "the line was closed");
+    fail(e, erase_again, &why);
+}
+
+/* Makes attempts until one ends with a verdict, or as many requests as may be have been sent. */
+static void erase_set(struct erase *e)
+{
+    struct text why = {.len = 0};
+    long long lost_until = 0; /* until when a line that ended is looked for; 0 while there is one */
+
+    while (e->verdict.requests < ATTEMPTS) {
+        unsigned sent = e->verdict.requests;
         enum part part = attempt(e);
 
         if (part == PART_OVER)
             return;
-        if (part == PART_LOST) {
+        if (part != PART_LOST || e->verdict.requests > sent)
+            lost_until = 0;
+        if (part == PART_LOST && lost_until == 0) {
             say_note("the line to %s was closed", e->bench->who.chars);
-            if (i == ATTEMPTS || !talk_reopen(e->bench, now_ms() + e->limit_ms)) {
-                text_add(&why, "the line was closed");
-                fail(e, erase_again, &why);
-                return;
-            }
+            lost_until = now_ms() + e->limit_ms;
         }
-        if (i < ATTEMPTS)
-            say_note("trying again");
+        if (part == PART_LOST && !talk_reopen(e->bench, lost_until)) {
+            fail_closed(e);
+            return;
+        }
     }
-    text_add(&why, "none of %d requests got the one reply that says so", ATTEMPTS);
+    text_add(&why, "none of %u requests got the one reply that says so", e->verdict.requests);
     fail(e, erase_again, &why);
 }
 
@@ -331,13 +356,10 @@ static void erase_all(struct erase *e)
 static enum status erase_wanted(struct erase *e)
 {
     bool to_all = e->request.dest == STATION_ALL;
-    struct text why = {.len = 0};
     enum part met = e->bench->options.yes || to_all ? PART_DONE : meet(e);
 
-    if (met == PART_LOST) {
-        text_add(&why, "the line was closed");
-        fail(e, erase_again, &why);
-    }
+    if (met == PART_LOST)
+        fail_closed(e);
     if (met != PART_DONE)
         return STATUS_DONE;
     if (!e->bench->options.yes && !is_wanted(e))

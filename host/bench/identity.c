@@ -25,8 +25,16 @@ static bool read_item(struct bench *bench, uint8_t kind, const char *name, struc
 
 bool identity_read(struct bench *bench, struct identity *identity, struct text *why, enum ending *ending)
 {
-    return read_item(bench, STATION_REPLY_SERIAL, "serial number", &identity->serial, why, ending) &&
-           read_item(bench, STATION_REPLY_MODEL, "model", &identity->model, why, ending);
+    struct reply again;
+
+    if (!read_item(bench, STATION_REPLY_SERIAL, "serial number", &identity->serial, why, ending) ||
+        !read_item(bench, STATION_REPLY_MODEL, "model", &identity->model, why, ending) ||
+        !read_item(bench, STATION_REPLY_SERIAL, "serial number", &again, why, ending))
+        return false;
+    if (reply_is(&identity->serial, &again))
+        return true;
+    text_add(why, "another set came to the line while its serial number and model were read");
+    return false;
 }
 
 bool identity_is(const struct identity *one, const struct identity *other)

@@ -8,7 +8,10 @@ struct identity {
     struct reply serial, model; /* the replies that tell them */
 };
 
-/* Reads a set's identity. Where it can't be read, adds why, and says in `ending` how the line left it. */
+/*
+ * Reads a set's identity: the serial number, the model, and the serial number again, so that both are one set's. Where it can't be
+ * read, adds why, and says in `ending` how the line left it.
+ */
 bool identity_read(struct bench *bench, struct identity *identity, struct text *why, enum ending *ending);
 
 /* Whether two identities are the same. */

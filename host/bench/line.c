@@ -147,15 +147,17 @@ bool line_tell(struct line *line, const struct packet *packet)
 
 /* ---- a request and its reply */
 
-/* Receives packets until one answers the request, is damaged, or the time is over. */
-static enum ending await(struct line *line, const struct request *request, long long limit_ms, struct exchange *exchange)
+/*
+ * Receives packets until one answers the request or is damaged, or the time is over. `rests`: until one answers it, the line rests,
+ * or the time is over.
+ */
+static enum ending await(struct line *line, const struct request *request, bool rests, long long until, struct exchange *exchange)
 {
-    long long until = now_ms() + limit_ms;
     enum ending ending = ENDED_SILENT;
 
     for (;;) {
         struct packet packet;
-        enum came came = line_hear(line, &packet, until);
+        enum came came = rests ? line_rest(line, &packet, until) : line_hear(line, &packet, until);
         bool is_good;
 
         if (came != CAME_PACKET)
@@ -168,7 +170,7 @@ static enum ending await(struct line *line, const struct request *request, long 
             ending = is_good ? ENDED_ANSWERED : ENDED_DAMAGED;
         if (line->verbose)
             say_bytes("<-", packet.bytes, packet.len, ending == ENDED_OTHER ? "answers another request, skipped" : NULL);
-        if (ending != ENDED_OTHER || now_ms() >= until)
+        if (ending == ENDED_ANSWERED || (ending == ENDED_DAMAGED && !rests) || now_ms() >= until)
             return ending;
     }
 }
@@ -179,6 +181,27 @@ void line_exchange(struct line *line, const struct request *request, const struc
     memset(exchange, 0, sizeof *exchange);
     exchange->ending = ENDED_UNSENT;
     if (send_rested(line, packet))
-        exchange->ending = await(line, request, limit_ms, exchange);
+        exchange->ending = await(line, request, false, now_ms() + limit_ms, exchange);
+    line->is_rested = exchange->ending == ENDED_ANSWERED;
+}
+
+/* Whether asking again is of no use. */
+static bool is_over(const struct exchange *exchange)
+{
+    return exchange->ending == ENDED_ANSWERED || exchange->ending == ENDED_CLOSED || exchange->ending == ENDED_UNSENT;
+}
+
+void line_read(struct line *line, const struct request *request, const struct packet *packet, long long try_ms, long long limit_ms,
+               struct exchange *exchange)
+{
+    long long until = now_ms() + limit_ms;
+
+    line_exchange(line, request, packet, try_ms, exchange);
+    while (!is_over(exchange) && now_ms() < until && line->port.inside == NULL) {
+        exchange->ending = await(line, request, true, until, exchange);
+        if (is_over(exchange))
+            break;
+        exchange->ending = line_send(line, packet) ? await(line, request, false, now_ms() + try_ms, exchange) : ENDED_UNSENT;
+    }
     line->is_rested = exchange->ending == ENDED_ANSWERED;
 }

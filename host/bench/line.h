@@ -54,6 +54,13 @@ struct exchange {
 void line_exchange(struct line *line, const struct request *request, const struct packet *packet, long long limit_ms,
                    struct exchange *exchange);
 
+/*
+ * Does the same for a request that only reads: sends it again after each try_ms, and takes the answer to any of them, until one
+ * comes, at most limit_ms.
+ */
+void line_read(struct line *line, const struct request *request, const struct packet *packet, long long try_ms, long long limit_ms,
+               struct exchange *exchange);
+
 /* Lets the line rest and sends an encoded request that nobody answers; says whether it went out. */
 bool line_tell(struct line *line, const struct packet *packet);
 

@@ -40,13 +40,13 @@ bool port_reopen(struct port *port, long long until)
         return false;
     if (port->fd >= 0)
         close(port->fd);
+    port->fd = -1;
     port->in_at = port->in_end = 0;
-    for (;;) {
+    while (port->fd < 0 && now_ms() < until) {
+        poll(NULL, 0, RECONNECT_MS); /* also before the first: a relay may take connections while its board is off */
         port->fd = port_connect(port->name + strlen(tcp), until);
-        if (port->fd >= 0 || now_ms() >= until)
-            return port->fd >= 0;
-        poll(NULL, 0, RECONNECT_MS);
     }
+    return port->fd >= 0;
 }
 
 /* Whether a read or write that failed may work a little later. */

@@ -31,14 +31,15 @@ static void print_read(const struct bench *bench, const struct exchange *exchang
 }
 
 /* Adds what differs. */
-static void add_difference(struct text *differs, const struct reading *reading, struct text *shown, const struct reply *unused)
+static void add_difference(struct read_back *found, const struct reading *reading, struct text *shown, const struct reply *unused)
 {
     bool is_identity = reading->request.kind == STATION_REPLY_SERIAL || reading->request.kind == STATION_REPLY_MODEL;
 
+    found->is_other_set = found->is_other_set || is_identity;
     text_add(shown, " (%s: ", is_identity ? "the set to erase" : "an unused board");
     add_sentence(shown, unused);
     text_add(shown, ")");
-    add_part(differs, shown);
+    add_part(&found->differs, shown);
 }
 
 /* Compares one read; says whether the board answered it. */
@@ -46,7 +47,7 @@ static bool compare(struct bench *bench, const struct identity *set, const struc
 {
     struct text shown = {.len = 0};
     struct exchange exchange;
-    struct reply unused;
+    struct reply unused = {.kind = 0};
     bool is_unused;
 
     talk_read(bench, &reading->request, &exchange);
@@ -66,7 +67,7 @@ static bool compare(struct bench *bench, const struct identity *set, const struc
     if (reply_is_refusal(&exchange.reply))
         add_part(&found->unproved, &shown);
     else if (!is_unused)
-        add_difference(&found->differs, reading, &shown, &unused);
+        add_difference(found, reading, &shown, &unused);
     return true;
 }
 

@@ -12,6 +12,7 @@
 struct read_back {
     struct text differs;  /* what an unused board with the set's identity does not show; empty where nothing differs */
     struct text unproved; /* the reads that were not served or not answered; empty where all were */
+    bool is_other_set;    /* serial number or model differ */
     bool is_closed;       /* the line ended while it was read */
 };
 

@@ -1,8 +1,13 @@
 /* What bench writes beside its results. */
+#define _DEFAULT_SOURCE /* TIOCGWINSZ */
+
 #include "say.h"
 
 #include <stdarg.h>
 #include <stdio.h>
+#include <string.h>
+#include <sys/ioctl.h>
+#include <unistd.h>
 
 static void add(struct text *text, const char *format, va_list values)
 {
@@ -34,6 +39,37 @@ void text_add_quoted(struct text *text, const uint8_t *bytes, size_t count)
     text_add(text, "'");
 }
 
+/* ---- a row of the terminal */
+
+static int row; /* how many columns of a row are filled that has no end yet */
+
+/* How many columns a line may fill without going on in the next row. */
+static int columns(void)
+{
+    struct winsize size = {.ws_col = 0};
+
+    return ioctl(STDERR_FILENO, TIOCGWINSZ, &size) == 0 && size.ws_col > 1 ? size.ws_col - 1 : 79;
+}
+
+void say_row(const char *line)
+{
+    int width = columns(), cut = strlen(line) < (size_t)width ? (int)strlen(line) : width;
+
+    if (isatty(STDERR_FILENO) != 1) {
+        fprintf(stderr, "%s\n", line);
+        return;
+    }
+    fprintf(stderr, "\r%-*.*s", row > cut && row <= width ? row : cut, cut, line); /* spaces cover a longer line before */
+    row = cut;
+}
+
+void say_end_row(void)
+{
+    if (row > 0)
+        fputc('\n', stderr);
+    row = 0;
+}
+
 /* ---- errors */
 
 static struct error last;
@@ -45,6 +81,7 @@ static void say(const char *left, const char *todo, const char *more, const char
     add(&last.what, format, values);
     text_add(&last.left, "%s", left);
     text_add(&last.todo, "%s%s", todo, more);
+    say_end_row();
     fprintf(stderr, "bench: %s.\n  Left as it was: %s.\n  To do: %s.\n", last.what.chars, last.left.chars, last.todo.chars);
 }
 
@@ -79,6 +116,7 @@ void say_note(const char *format, ...)
 {
     va_list values;
 
+    say_end_row();
     fputs("bench: ", stderr);
     va_start(values, format);
     vfprintf(stderr, format, values);
@@ -88,6 +126,7 @@ void say_note(const char *format, ...)
 
 void say_bytes(const char *direction, const uint8_t *bytes, size_t count, const char *remark)
 {
+    say_end_row();
     fputs(direction, stderr);
     for (size_t i = 0; i < count; i++)
         fprintf(stderr, " %02X", bytes[i]);

@@ -43,6 +43,13 @@ struct error {
 /* The error that was said last. */
 const struct error *say_last_error(void);
 
+/*
+ * Shows a line that stands for something that goes on: on a terminal in place of the one before, cut where the row ends; else by
+ * itself. The next thing that is said, or say_end_row, ends the row.
+ */
+void say_row(const char *line);
+void say_end_row(void);
+
 /* Says a line that is no error. */
 __attribute__((format(printf, 1, 2))) void say_note(const char *format, ...);
 

@@ -7,6 +7,8 @@
 #include <stdio.h>
 #include <string.h>
 
+enum { READ_TRIES = 3 };
+
 bool talk_is_simulated(const struct bench *bench)
 {
     return strcmp(bench->options.port, PORT_SIMULATED) == 0;
@@ -66,24 +68,31 @@ enum status talk_ask(struct bench *bench, const struct request *request, long lo
     return status;
 }
 
-long long talk_read_limit(const struct bench *bench)
+/* How long a read waits before it is sent again. */
+static long long read_try(const struct bench *bench)
 {
     long long limit_ms = talk_limit(bench, REPLY_LIMIT_MS);
 
     return limit_ms < REPLY_LIMIT_MS ? limit_ms : REPLY_LIMIT_MS;
 }
 
+long long talk_read_limit(const struct bench *bench)
+{
+    long long tries_ms = READ_TRIES * read_try(bench);
+
+    return bench->options.limit_ms > tries_ms ? bench->options.limit_ms : tries_ms;
+}
+
 void talk_read(struct bench *bench, const struct request *request, struct exchange *exchange)
 {
-    for (int tries = 0; tries < 3; tries++) {
-        if (talk_ask(bench, request, talk_read_limit(bench), exchange) != STATUS_DONE) {
-            exchange->ending = ENDED_UNSENT;
-            return;
-        }
-        talk_show_damage(bench, exchange);
-        if (exchange->ending == ENDED_ANSWERED || exchange->ending == ENDED_CLOSED || exchange->ending == ENDED_UNSENT)
-            return;
+    struct packet packet;
+
+    if (talk_encode(request, &packet) != STATUS_DONE) {
+        exchange->ending = ENDED_UNSENT;
+        return;
     }
+    line_read(&bench->line, request, &packet, read_try(bench), talk_read_limit(bench), exchange);
+    talk_show_damage(bench, exchange);
 }
 
 /* ---- when there is no answer */

@@ -26,10 +26,8 @@ enum status talk_ask(struct bench *bench, const struct request *request, long lo
 long long talk_limit(const struct bench *bench, long long usual_ms);
 enum { REPLY_LIMIT_MS = 2000 };
 
-/*
- * Sends a request that only reads, at most three times, until it is answered; each time it waits no longer than talk_read_limit,
- * however slow an erase may be.
- */
+/* Sends a request that only reads, again and again until it is answered or talk_read_limit is over: the time of three tries, or the
+ * option's. */
 void talk_read(struct bench *bench, const struct request *request, struct exchange *exchange);
 long long talk_read_limit(const struct bench *bench);
 

@@ -158,16 +158,28 @@ static void interrupted(int signal)
     _exit(STATUS_NOT_ERASED);
 }
 
+/* Leaves a signal alone that whoever started bench wants to be ignored, as nohup does. */
+static void catch_signal(int signal)
+{
+    struct sigaction action = {.sa_handler = interrupted}, before;
+
+    if (sigaction(signal, NULL, &before) == 0 && before.sa_handler != SIG_IGN)
+        sigaction(signal, &action, NULL);
+}
+
 void verdict_on_interruption(const struct bench *bench)
 {
-    struct sigaction action = {.sa_handler = interrupted};
 
+    char monitor[8] = "\"all\"";
+
+    if (bench->options.dest != STATION_ALL)
+        snprintf(monitor, sizeof monitor, "%u", bench->options.dest);
     if (bench->options.json)
         snprintf(interrupted_json, sizeof interrupted_json,
-                 "{\"monitor\":%u,\"verdict\":\"%s\",\"status\":%d,\"error\":\"%s\",\"left\":\"%s\",\"todo\":\"%s\"}\n",
-                 bench->options.dest, words_of(VERDICT_NOT_KNOWN), STATUS_NOT_ERASED, INTERRUPTED, INTERRUPTED_LEFT,
-                 INTERRUPTED_TODO);
-    sigaction(SIGINT, &action, NULL);
-    sigaction(SIGTERM, &action, NULL);
-    sigaction(SIGHUP, &action, NULL);
+                 "{\"monitor\":%s,\"verdict\":\"%s\",\"status\":%d%s,\"error\":\"%s\",\"left\":\"%s\",\"todo\":\"%s\"}\n", monitor,
+                 words_of(VERDICT_NOT_KNOWN), STATUS_NOT_ERASED, talk_is_simulated(bench) ? ",\"simulated\":true" : "", INTERRUPTED,
+                 INTERRUPTED_LEFT, INTERRUPTED_TODO);
+    catch_signal(SIGINT);
+    catch_signal(SIGTERM);
+    catch_signal(SIGHUP);
 }

@@ -91,11 +91,21 @@ static enum store_file_status read_whole(int fd, uint8_t *bytes)
     return STORE_FILE_OPEN;
 }
 
+/* Whether the name still leads to the open file, and not to another or to none. */
+static bool is_named(const struct store_file *file)
+{
+    struct stat named, opened;
+
+    return stat(file->path, &named) == 0 && fstat(file->fd, &opened) == 0 && named.st_dev == opened.st_dev &&
+           named.st_ino == opened.st_ino;
+}
+
 enum store_file_status store_file_open(struct store_file *file, const char *path)
 {
     enum store_file_status status;
     int wrong;
 
+    file->path = path;
     file->fd = open(path, O_RDWR | O_CLOEXEC);
     if (file->fd < 0 && errno == ENOENT && make_store(path))
         file->fd = open(path, O_RDWR | O_CLOEXEC);
@@ -104,7 +114,7 @@ enum store_file_status store_file_open(struct store_file *file, const char *path
     if (flock(file->fd, LOCK_EX | LOCK_NB) != 0)
         status = errno == EWOULDBLOCK ? STORE_FILE_IN_USE : STORE_FILE_SYSTEM;
     else
-        status = read_whole(file->fd, file->bytes);
+        status = is_named(file) ? read_whole(file->fd, file->bytes) : STORE_FILE_CHANGED;
     memcpy(file->kept, file->bytes, BOARD_STORE_SIZE);
     if (status != STORE_FILE_OPEN) {
         wrong = errno;
@@ -122,7 +132,9 @@ static enum store_file_status check_kept(const struct store_file *file)
 
     if (status == STORE_FILE_SYSTEM)
         return status;
-    return status == STORE_FILE_OPEN && memcmp(now, file->kept, sizeof now) == 0 ? STORE_FILE_OPEN : STORE_FILE_CHANGED;
+    if (status != STORE_FILE_OPEN || memcmp(now, file->kept, sizeof now) != 0 || !is_named(file))
+        return STORE_FILE_CHANGED;
+    return STORE_FILE_OPEN;
 }
 
 enum store_file_status store_file_keep(struct store_file *file)

@@ -11,11 +11,12 @@ enum store_file_status {
     STORE_FILE_OPEN,
     STORE_FILE_IN_USE,      /* by another program */
     STORE_FILE_NOT_A_STORE, /* it is not a file of 128 bytes */
-    STORE_FILE_CHANGED,     /* another program has changed or cut the file since */
+    STORE_FILE_CHANGED,     /* another program has changed, cut, moved or replaced the file since */
     STORE_FILE_SYSTEM,      /* the system refused something, and errno says why */
 };
 
 struct store_file {
+    const char *path;                /* its name, which has to lead to it as long as it is open */
     uint8_t bytes[BOARD_STORE_SIZE]; /* the store, lent to the board's calls */
     uint8_t kept[BOARD_STORE_SIZE];  /* what of it the file has */
     int fd;
@@ -23,7 +24,7 @@ struct store_file {
 
 /*
  * Reads the file of this name, and makes an unused store where there is none. Nobody else can open it so until store_file_close. A
- * link that leads nowhere is no store: where it leads is for its maker to say.
+ * link that leads nowhere is no store: where it leads is for its maker to say. The name is used until then too.
  */
 enum store_file_status store_file_open(struct store_file *file, const char *path);
 

@@ -8,13 +8,17 @@
  * behind the last one there is no board.
  *
  *   --erase LIST     what becomes of erase requests, one after another between commas, the last for all that follow:
- *                    pass (the board gets it), lose (nobody does), hush (the board gets it, and its reply is lost), or the digits
- * of an answer that comes at once, while nobody gets the request
+ *                    pass (the board gets it), lose (nobody does), hush (the board gets it, its reply is lost), or the digits of
+ *                    an answer that comes at once, while nobody gets the request
  *   --reads HOW      what becomes of all other requests but echoes behind the first erase request: pass, silent or null; with
  *                    HOW:TEXT of those alone whose text begins so
- *   --move request   the cable moves just before the first erase request, or with --move reply just behind the reply to it
+ *   --move WHEN      the cable moves just before the first erase request (request), with one that is lost (lose), or just behind
+ *                    the reply to one (reply)
  *   --drop N         with --tcp: the connection is closed behind the Nth packet to bench
+ *   --relay          with --tcp: a connection is closed while the board is off
+ *   --echo-from C    answers to echoes come from this address
  *   --late MS        what a board sends comes so much later
+ *   --pace MS        each byte to bench takes so long
  *   --twice          each reply comes twice
  *   --noise MS       a byte 55h comes so often
  *   --old MS:HEX     these bytes come so long after the start, or with --tcp after each connection; may stand several times
@@ -44,13 +48,13 @@ static const char null_reply[] = "0130304142303402424503010D";
 /* ---- what the line was told to do */
 
 static struct {
-    bool pty, twice, move_at_request, move_at_reply;
-    const char *erase, *reads;
-    long drop, late, noise;
+    bool pty, twice, relay;
+    const char *erase, *reads, *move, *echo_from;
+    long drop, late, pace, noise;
     const char *old[8];
     size_t olds;
     char **boards; /* ports, ended by a null pointer */
-} told = {.erase = "pass", .reads = "pass"};
+} told = {.erase = "pass", .reads = "pass", .move = ""};
 
 /* ---- the line */
 
@@ -93,13 +97,21 @@ static long long now_ms(void)
 
 /* ---- to bench */
 
-static void queue_bytes(const uint8_t *bytes, size_t len, long long due)
+static void queue_part(const uint8_t *bytes, size_t len, long long due)
 {
     struct waiting *waiting = &line.queue[line.end++ % (sizeof line.queue / sizeof line.queue[0])];
 
     waiting->due = due;
     waiting->packet.len = len;
     memcpy(waiting->packet.bytes, bytes, len);
+}
+
+static void queue_bytes(const uint8_t *bytes, size_t len, long long due)
+{
+    if (told.pace == 0)
+        queue_part(bytes, len, due);
+    for (size_t i = 0; told.pace > 0 && i < len; i++)
+        queue_part(bytes + i, 1, due + told.pace * (long long)i);
 }
 
 static void queue_hex(const char *hex, long long due)
@@ -230,7 +242,9 @@ static void take_erase(const struct packet *packet)
 
     snprintf(how, sizeof how, "%.*s", (int)turn, told.erase);
     told.erase += told.erase[turn] == ',' ? turn + 1 : 0;
-    if (told.move_at_request && !line.was_erased)
+    if (strcmp(told.move, "request") == 0 && !line.was_erased)
+        move_cable();
+    if (strcmp(told.move, "lose") == 0 && strcmp(how, "lose") == 0)
         move_cable();
     line.was_erased = true;
     if (strcmp(how, "hush") == 0)
@@ -259,10 +273,15 @@ static void take_request(const struct packet *packet)
         queue_hex(null_reply, now_ms());
 }
 
-static void take_reply(const struct packet *packet)
+static void take_reply(const struct packet *reply)
 {
+    struct packet changed = *reply, *packet = &changed;
     bool is_erased = has_text(packet, 'F', "00F001");
 
+    if (told.echo_from != NULL && has_text(packet, 'D', "01")) {
+        packet->bytes[packet->len - 2] ^= packet->bytes[3] ^ (uint8_t)told.echo_from[0];
+        packet->bytes[3] = (uint8_t)told.echo_from[0];
+    }
     if (is_erased && line.hushed > 0) {
         line.hushed--;
         return;
@@ -270,7 +289,7 @@ static void take_reply(const struct packet *packet)
     queue_bytes(packet->bytes, packet->len, now_ms() + told.late);
     if (told.twice)
         queue_bytes(packet->bytes, packet->len, now_ms() + told.late);
-    if (is_erased && told.move_at_reply)
+    if (is_erased && strcmp(told.move, "reply") == 0)
         move_cable();
 }
 
@@ -377,6 +396,8 @@ static void serve(void)
         take_client();
     try_board();
     send_due();
+    if (told.relay && line.board < 0 && line.bench >= 0)
+        leave_bench();
 }
 
 static void take_option(const char *name, const char *value)
@@ -386,7 +407,11 @@ static void take_option(const char *name, const char *value)
     else if (strcmp(name, "--reads") == 0)
         told.reads = value;
     else if (strcmp(name, "--move") == 0)
-        *(strcmp(value, "reply") == 0 ? &told.move_at_reply : &told.move_at_request) = true;
+        told.move = value;
+    else if (strcmp(name, "--echo-from") == 0)
+        told.echo_from = value;
+    else if (strcmp(name, "--pace") == 0)
+        told.pace = strtol(value, NULL, 10);
     else if (strcmp(name, "--drop") == 0)
         told.drop = strtol(value, NULL, 10);
     else if (strcmp(name, "--late") == 0)
@@ -412,6 +437,8 @@ int main(int argc, char **argv)
             told.pty = argv[i][2] == 'p';
         else if (strcmp(argv[i], "--twice") == 0)
             told.twice = true;
+        else if (strcmp(argv[i], "--relay") == 0)
+            told.relay = true;
         else if (i + 1 < argc)
             take_option(argv[i], argv[i + 1]), i++;
     }

@@ -55,6 +55,21 @@ __attribute__((format(printf, 2, 3), noreturn)) static void fail(int line, const
     exit(1);
 }
 
+/* A test that hangs fails. */
+enum { TIME_LIMIT_S = 600 };
+
+static void time_out(int signal)
+{
+    static const char words[] = "boardsim_from_outside: no end in sight\n";
+    ssize_t written = write(STDERR_FILENO, words, sizeof words - 1);
+
+    (void)signal;
+    (void)written;
+    if (running != 0)
+        kill(running, SIGKILL);
+    _exit(1);
+}
+
 /* ---- random numbers from a fixed seed, and time */
 
 static uint64_t random_state = SEED;
@@ -593,12 +608,32 @@ static void try_changed_stores(void)
     remove_store();
 }
 
+/* A store that is moved away is no more the board's; another board may take its name. */
+static void try_moved_store(void)
+{
+    char moved[4100];
+    struct child first = START("/dev/null", "--pty"), second;
+    int line = open_device(&first);
+
+    snprintf(moved, sizeof moved, "%s.moved", store_path);
+    REQUIRE(rename(store_path, moved) == 0, "can't move the store");
+    second = START("/dev/null", "--pty");
+    send_request(line, 'A', 'E', "00100064");
+    REQUIRE(ended_by_itself(&first) == 1, "a store that was moved");
+    EXPECT_STORE(unused_store());
+    close(line);
+    running = second.pid;
+    stop_board(&second);
+    REQUIRE(unlink(moved) == 0, "can't remove the store");
+    remove_store();
+}
+
 /* A client that moves no byte has to go, so that the next is served; the time of an erase does not count. */
 static void try_idle_clients(void)
 {
     const struct packet request = packet_of('A', '0', 'C', "0010");
     struct child child = START(NULL, "--tcp", "0", "--idle-ms", "400", "--step-ms", "8");
-    int line = open_connection(&child);
+    int line = open_connection(&child), next;
     uint8_t byte;
 
     EXCHANGE(line, 'C', "0010", 'D', backlight_unused);
@@ -614,9 +649,9 @@ static void try_idle_clients(void)
         sent = write(line, request.bytes, request.size);
     REQUIRE(errno == EAGAIN, "can't send");
     wait_ms(1500);
-    close(line);
-    line = open_connection(&child);
-    EXCHANGE(line, 'C', "0010", 'D', backlight_unused);
+    next = open_connection(&child);
+    EXCHANGE(next, 'C', "0010", 'D', backlight_unused);
+    close(next);
     close(line);
     stop_board(&child);
 }
@@ -821,6 +856,7 @@ static void try_behaviour(void)
     try_together();
     try_link();
     try_changed_stores();
+    try_moved_store();
     try_clients();
     try_idle_clients();
     try_gaps();
@@ -1040,6 +1076,8 @@ int main(int argc, char **argv)
     for (size_t i = 0; argc == 4 && i < COUNT(modes); i++) {
         if (strcmp(argv[3], modes[i].name) != 0)
             continue;
+        signal(SIGALRM, time_out);
+        alarm(TIME_LIMIT_S);
         program = argv[1];
         snprintf(store_path, sizeof store_path, "%s/boardsim_from_outside_%s.store", argv[2], modes[i].name);
         signal(SIGPIPE, SIG_IGN);
