@@ -287,7 +287,7 @@ static void erase_set(struct erase *e)
             say_note("the line to %s was closed", e->bench->who.chars);
             lost_until = now_ms() + e->limit_ms;
         }
-        if (part == PART_LOST && !talk_reopen(e->bench, lost_until)) {
+        if (part == PART_LOST && (e->verdict.requests == ATTEMPTS || !talk_reopen(e->bench, lost_until))) {
             fail_closed(e);
             return;
         }

@@ -26,8 +26,10 @@ enum status talk_ask(struct bench *bench, const struct request *request, long lo
 long long talk_limit(const struct bench *bench, long long usual_ms);
 enum { REPLY_LIMIT_MS = 2000 };
 
-/* Sends a request that only reads, again and again until it is answered or talk_read_limit is over: the time of three tries, or the
- * option's. */
+/*
+ * Sends a request that only reads, again and again until it is answered or talk_read_limit is over: the time of three tries, or the
+ * option's, whichever is longer.
+ */
 void talk_read(struct bench *bench, const struct request *request, struct exchange *exchange);
 long long talk_read_limit(const struct bench *bench);
 

@@ -12,8 +12,8 @@
  *                    an answer that comes at once, while nobody gets the request
  *   --reads HOW      what becomes of all other requests but echoes behind the first erase request: pass, silent or null; with
  *                    HOW:TEXT of those alone whose text begins so
- *   --move WHEN      the cable moves just before the first erase request (request), with one that is lost (lose), or just behind
- *                    the reply to one (reply)
+ *   --move WHEN      the cable moves just before the first model read (model) or erase request (request), with an erase
+ *                    request that is lost (lose), or just behind the reply to one (reply)
  *   --drop N         with --tcp: the connection is closed behind the Nth packet to bench
  *   --relay          with --tcp: a connection is closed while the board is off
  *   --echo-from C    answers to echoes come from this address
@@ -265,6 +265,10 @@ static bool is_told_of(const struct packet *packet)
 
 static void take_request(const struct packet *packet)
 {
+    if (strcmp(told.move, "model") == 0 && has_text(packet, 'A', "C217")) {
+        told.move = "";
+        move_cable();
+    }
     if (has_text(packet, 'E', "F0010001"))
         take_erase(packet);
     else if (!is_told_of(packet) || strcmp(told.reads, "pass") == 0)
