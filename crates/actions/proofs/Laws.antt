@@ -22,6 +22,7 @@ use Rattle.store.specs.declared.settings.Found.{Found}
 use Rattle.wire.proofs.Tests.{both}
 use Rattle.store.proofs.StoreLaws.{isField, in-range-one}
 use Rattle.store.proofs.SettingLaws.{setting-listed}
+use Rattle.layouts.proofs.RangeLaws.{range-fields}
 use Rattle.actions.specs.Act as act
 use Rattle.actions.specs.View.{identityBytes}
 use Rattle.actions.specs.Inner.{Decides, StoreInRange}
@@ -55,7 +56,7 @@ seen-whole t l h = take-append-le (t .count) (t .bytes) (0 ∷ []) (omega arith)
 
 -- in a store that is in range a field holds at most what it may
 field-at-most : (m : List ℕ) (f : Field) → StoreInRange m → isField f ≡ true → read m f ≤ f .most
-field-at-most m f r e = leb-true (read m f) (f .most) (both (leb (f .least) (read m f)) (leb (read m f) (f .most)) (in-range-one m f (r .ranged) e) .1)
+field-at-most m f r e = leb-true (read m f) (f .most) (both (leb (f .least) (read m f)) (leb (read m f) (f .most)) (in-range-one m f (range-fields m (r .ranged)) e) .1)
 
 pub tag-few : (m : List ℕ) → StoreInRange m → (length m ≡ 128) × (read m tagLength ≤ 16)
 tag-few m r = (r .size, field-at-most m tagLength r refl)

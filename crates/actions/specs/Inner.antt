@@ -7,7 +7,7 @@ use lib.ListN.{length}
 use Rattle.plan.specs.Stores.{Entry}
 use Rattle.plan.specs.Plans.{storesOf}
 use Rattle.messages.specs.View.{replyOf, replyCount}
-use Rattle.store.specs.Layout.{fieldsInRange}
+use Rattle.layouts.specs.Layouts.{inRange}
 use Rattle.actions.specs.Act as act
 use Rattle.actions.specs.declared.Effect.{Effect}
 use Rattle.actions.specs.declared.Decision.{Decision}
@@ -32,4 +32,4 @@ pub record Decides (d : Decision) (e : act.Effect) : Type 0 where
 -- a store that a decision is made on
 pub record StoreInRange (m : List ℕ) : Type 0 where
   pub size : length m ≡ 128
-  pub ranged : fieldsInRange m ≡ true
+  pub ranged : inRange m ≡ true

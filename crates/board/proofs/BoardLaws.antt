@@ -17,8 +17,8 @@ use Rattle.messages.specs.Message.{Reply}
 use Rattle.messages.specs.Read.{requestIn}
 use Rattle.receiver.specs.Receive as receive
 use Rattle.receiver.proofs.Laws.{accept-proper}
-use Rattle.store.specs.Layout.{fieldsInRange, unusedStore}
-use Rattle.store.proofs.UnusedLaws.{unused-length, unused-in-range}
+use Rattle.layouts.specs.Layouts.{inRange, unusedStore}
+use Rattle.layouts.proofs.UnusedLaws.{unused-length, unused-in-range}
 use Rattle.calls.specs.Board.{Identity, Answer, waiting, silent, begun, refused, reply, Erase, idle, pending, board}
 use Rattle.calls.specs.Calls.{mark, eraseMark, atRest, erasing, isSoundAs, isSound}
 use Rattle.calls.proofs.Laws.{Startable, Settles, Begins, Laws}
@@ -33,7 +33,7 @@ pub record Resting (i : Identity) (held m : List ℕ) : Type 0 where
   pub named : isIdentity i ≡ true
   pub size : length m ≡ 128
   pub marked : mark m ≡ mark unusedStore
-  pub ranged : fieldsInRange m ≡ true
+  pub ranged : inRange m ≡ true
   pub proper : receive.isProperBeginning held ≡ true
 
 pub resting : (s : BoardState) (m : List ℕ) → s .erase ≡ idle → isSound boardKind s m ≡ true → Resting (s .ident) (s .held) m
@@ -42,8 +42,8 @@ resting s m q h =
     let x = both (isIdentity (s .ident) && eqb (length m) 128) (isSoundAs boardKind (s .erase) (s .held) m) h in
     let y = both (isIdentity (s .ident)) (eqb (length m) 128) (x .0) in
     let a : isSoundAs boardKind idle (s .held) m ≡ true = subst (λ (e : Erase Bool). isSoundAs boardKind e (s .held) m ≡ true) q (x .1) in
-    let z = both (eqb (mark m) (mark unusedStore) && fieldsInRange m) (receive.isProperBeginning (s .held)) a in
-    let w = both (eqb (mark m) (mark unusedStore)) (fieldsInRange m) (z .0) in
+    let z = both (eqb (mark m) (mark unusedStore) && inRange m) (receive.isProperBeginning (s .held)) a in
+    let w = both (eqb (mark m) (mark unusedStore)) (inRange m) (z .0) in
     record { named = y .0; size = eqb-true _ _ (y .1); marked = eqb-true _ _ (w .0); ranged = w .1; proper = z .1 }
 
 pub resting-sound : {i : Identity} {held m : List ℕ} → Resting i held m → isSound boardKind (holding i held) m ≡ true

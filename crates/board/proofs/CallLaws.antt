@@ -20,7 +20,7 @@ use Rattle.wire.proofs.Tests.{cond-by, both}
 use Rattle.plan.specs.Stores.{entry, applied}
 use Rattle.plan.specs.Plans.{storesOf}
 use Rattle.plan.specs.Inner.{Committable}
-use Rattle.store.specs.Layout.{fieldsInRange, unusedStore}
+use Rattle.layouts.specs.Layouts.{inRange, unusedStore}
 use Rattle.store.specs.declared.contents.ItemBytes.{ItemBytes}
 use Rattle.receiver.specs.Receive as receive
 use Rattle.receiver.specs.View.{heldOf, receptionIn, receipt, emptied, withByte, receiverAfter, WholeOf}
@@ -285,7 +285,7 @@ startedAs i (calls.startRefused n) = calls.startRefused n
 
 start-told : (i : Identity) (m : List ℕ) → onStart boardKind i m ≡ startedAs i (startState m (isIdentity i))
 unfolding onStart startOther erasing
-start-told i m = go (eqb (length m) 128 && eqb (mark m) eraseMark) (eqb (length m) 128 && eqb (mark m) (mark unusedStore)) (isIdentity i) (fieldsInRange m)
+start-told i m = go (eqb (length m) 128 && eqb (mark m) eraseMark) (eqb (length m) 128 && eqb (mark m) (mark unusedStore)) (isIdentity i) (inRange m)
   where
     go : (erase unused named ranged : Bool)
         → cond erase (cond named (calls.board (record { ident = i; held = []; erase = pending 1 false }) []) (calls.startRefused 12))
@@ -308,7 +308,7 @@ ready-named : (m : List ℕ) (n : Bool) → Named n (startState m n)
 ready-named m true =
     cond-by (Named true) (eqb (length m) 128 && eqb (mark m) eraseMark) _ _ (λ _. refl)
     (λ _. cond-by (Named true) (eqb (length m) 128 && eqb (mark m) (mark unusedStore)) _ _
-    (λ _. cond-by (Named true) (fieldsInRange m) _ _ (λ _. refl) (λ _. tt)) (λ _. tt))
+    (λ _. cond-by (Named true) (inRange m) _ _ (λ _. refl) (λ _. tt)) (λ _. tt))
 ready-named m false =
     cond-by (Named false) (eqb (length m) 128 && eqb (mark m) eraseMark) _ _ (λ _. tt)
     (λ _. cond-by (Named false) (eqb (length m) 128 && eqb (mark m) (mark unusedStore)) _ _ (λ _. tt) (λ _. tt))

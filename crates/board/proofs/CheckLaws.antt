@@ -15,7 +15,8 @@ use Rattle.wire.specs.Judge as judge
 use Rattle.wire.proofs.Tests.{cond-by}
 use Rattle.messages.specs.Read.{requestIn}
 use Rattle.receiver.specs.Receive as receive
-use Rattle.store.specs.Layout.{fieldsInRange, unusedStore}
+use Rattle.store.specs.Layout.{fieldsInRange}
+use Rattle.layouts.specs.Layouts.{inRange, unusedStore}
 use Rattle.calls.specs.Board.{Identity, waiting, refused, Erase, idle, pending, isPending, Started, board, startRefused}
 use Rattle.calls.specs.Calls.{mark, firstBytes, erasing, isShort, isSoundAs, isSound, entryCheck, entryCheckOf, refuse, callOn, onCall, stepOn, onStep, onStart, eraseStep, clearStep, endStep}
 use Rattle.calls.proofs.Steps.{step-clears-or-ends}
@@ -49,8 +50,8 @@ use Rattle.board.specs.Demand1.{
 
 -- ---- soundness
 
-in-range : (m : List ℕ) → fieldsInRange m ≡ allInRange m ranges
-unfolding fieldsInRange allInRange
+in-range : (m : List ℕ) → inRange m ≡ allInRange m ranges
+unfolding inRange fieldsInRange allInRange
 in-range m = refl
 
 limits-as : (l : Option ℕ) → judge.inLimits l ≡ isL l
@@ -262,7 +263,7 @@ module _ (s : BoardState) (m lent : List ℕ) where
 
 pub start-checked : (i : Identity) (m : List ℕ) → startRefusalIn (onStart boardKind i m) ≡ firstFailed (startChecks i m)
 unfolding onStart startOther startChecks firstFailed mark unusedStore isIdentity
-start-checked i m = rw (← in-range m) (go _ _ (eqb (length m) 128) (eqb (getD m 0 0) 0xE7) (eqb (getD m 0 0) 0x00) (isKnown i) (fieldsInRange m))
+start-checked i m = rw (← in-range m) (go _ _ (eqb (length m) 128) (eqb (getD m 0 0) 0xE7) (eqb (getD m 0 0) 0x00) (isKnown i) (inRange m))
   where
     go : (s t : BoardState) (sized erases rests known ranged : Bool)
         → startRefusalIn
@@ -281,7 +282,7 @@ start-checked i m = rw (← in-range m) (go _ _ (eqb (length m) 128) (eqb (getD 
 
 pub start-given : (i : Identity) (m : List ℕ) → firstFailed (startChecks i m) ≡ none → onStart boardKind i m ≡ board (startedState i m) []
 unfolding onStart startOther startChecks firstFailed mark unusedStore isIdentity erasing
-start-given i m = rw (← in-range m) (go (eqb (length m) 128) (eqb (getD m 0 0) 0xE7) (eqb (getD m 0 0) 0x00) (isKnown i) (fieldsInRange m))
+start-given i m = rw (← in-range m) (go (eqb (length m) 128) (eqb (getD m 0 0) 0xE7) (eqb (getD m 0 0) 0x00) (isKnown i) (inRange m))
   where
     started : Erase Bool → Started BoardState
     started e = board (record { ident = i; held = []; erase = e }) []

@@ -9,7 +9,7 @@ use lib.ListN.{length, getD, set, drop}
 use borrow.Author.Tests.{ne-eqb}
 use Rattle.wire.specs.Packet.{over}
 use Rattle.wire.proofs.Tests.{cond-by}
-use Rattle.store.specs.Layout.{unusedStore}
+use Rattle.layouts.specs.Layouts.{unusedStore}
 use Rattle.calls.specs.Board.{Identity, begun, ended, reply}
 use Rattle.calls.specs.Calls.{isShort, atRest, refuse, onCall}
 use Rattle.calls.specs.Lists.{call, step, cut, from, run, Acceptance, identity, traceAfter}

@@ -8,7 +8,7 @@ use Rattle.wire.specs.Packet.{xorFrom, packet, zeroByte, typeE}
 use Rattle.messages.specs.Message.Request.{setParameter}
 use Rattle.messages.specs.Message.Reply.{setReply}
 use Rattle.messages.specs.Text.{replyType, replyText, parameterText, requestText}
-use Rattle.store.specs.Layout.{unusedStore}
+use Rattle.layouts.specs.Layouts.{unusedStore}
 use Rattle.wire.proofs.Tests.{both}
 use Rattle.calls.specs.Board.{Identity}
 use Rattle.calls.specs.Calls.{same}

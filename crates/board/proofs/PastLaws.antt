@@ -6,7 +6,7 @@ use Prim.Native.Nat.{ℕ, suc, _≤_}
 use native.Mathlib.Omega.{arith}
 use borrow.Author.Tests.{ltb-true, ne-eqb, lt-leb}
 use Rattle.wire.specs.Refusal.{changesNothing}
-use Rattle.store.specs.Layout.{unusedStore}
+use Rattle.layouts.specs.Layouts.{unusedStore}
 use Rattle.calls.specs.Board.{Identity, Answer, waiting, begun, refused, Started}
 use Rattle.calls.specs.Calls.{isShort, refuse, atRest, erasing, clearStep, endStep, onCall, onStep, onStart}
 use Rattle.calls.specs.Lists.{Event, call, step, cut, isLast, ends, Acceptance, left}

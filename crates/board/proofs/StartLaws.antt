@@ -17,7 +17,7 @@ use Rattle.calls.proofs.Steps.{refusal-changes-nothing}
 use Rattle.calls.proofs.Kept.{rest-sound}
 use Rattle.wire.proofs.Tests.{cond-by, both}
 use Rattle.calls.specs.Calls.{mark, isShort, refuse, atRest, isSound, onCall, onStep, onStart}
-use Rattle.store.specs.Layout.{unusedStore, fieldsInRange}
+use Rattle.layouts.specs.Layouts.{inRange, unusedStore}
 use Rattle.packets.specs.Packets.{BoardState, isIdentity}
 use Rattle.board.specs.BoardKind.{Call, lends, startOther, boardKind}
 use Rattle.board.proofs.BoardLaws.{board-laws}
@@ -83,8 +83,8 @@ started-sound i m =
     (λ _. tt))
     (λ _. cond-by (SoundlyStarted m) (eqb (length m) 128 && eqb (mark m) (mark unusedStore)) _ _
     (λ t. let b = both (eqb (length m) 128) (eqb (mark m) (mark unusedStore)) t in
-    cond-by (SoundlyStarted m) (isIdentity i && fieldsInRange m) _ _
-    (λ u. let c = both (isIdentity i) (fieldsInRange m) u in
+    cond-by (SoundlyStarted m) (isIdentity i && inRange m) _ _
+    (λ u. let c = both (isIdentity i) (inRange m) u in
     rest-sound board-laws
     (record { named = c .0; size = eqb-true (length m) 128 (b .0); marked = eqb-true (mark m) (mark unusedStore) (b .1); ranged = c .1 }))
     (λ _. tt)) (λ _. tt))

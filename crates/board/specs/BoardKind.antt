@@ -7,7 +7,7 @@ use lib.ListN.{length, getD}
 use Rattle.wire.specs.Packet.{addressOf, over}
 use Rattle.messages.specs.Message.Reply.{setReply}
 use Rattle.receiver.specs.Receive as receive
-use Rattle.store.specs.Layout.{fieldsInRange, unusedStore}
+use Rattle.layouts.specs.Layouts.{inRange, unusedStore}
 use Rattle.calls.specs.Board.{Identity, Answer, waiting, ended, refused, reply, Started, board, startRefused}
 use Rattle.calls.specs.Kind.{Kind}
 use Rattle.calls.specs.Calls.{mark}
@@ -60,7 +60,7 @@ lastBuffer i false lent = lent
 unfoldable pub startOther : Identity → List ℕ → Started BoardState
 startOther i m =
     cond (eqb (length m) 128 && eqb (mark m) (mark unusedStore))
-    (cond (isIdentity i && fieldsInRange m) (board (holding i []) []) (startRefused 12))
+    (cond (isIdentity i && inRange m) (board (holding i []) []) (startRefused 12))
     (startRefused 11)
 
 abbrev pub boardKind : Kind
@@ -72,7 +72,7 @@ boardKind =
       Call = Call;
       isIdentity = isIdentity;
       unused = unusedStore;
-      inRange = fieldsInRange;
+      inRange = inRange;
       nothing = [];
       isNothing = isNone;
       isProper = receive.isProperBeginning;

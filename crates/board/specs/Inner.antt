@@ -12,7 +12,7 @@ use Rattle.plan.specs.Stores.{Entry}
 use Rattle.plan.specs.Plans.{storesOf}
 use Rattle.receiver.specs.View.{heldOf}
 use Rattle.receiver.specs.Inner.{asked}
-use Rattle.store.specs.Layout.{fieldsInRange, unusedStore}
+use Rattle.layouts.specs.Layouts.{inRange, unusedStore}
 use Rattle.calls.specs.Board as calls
 use Rattle.calls.specs.Board.{Started, board, startRefused}
 use Rattle.calls.specs.Calls.{mark, eraseMark, firstBytes, same, isSound}
@@ -40,7 +40,7 @@ pendingFits len place m =
 
 -- none pending: the unused mark, fields in range, and held bytes that ask for more, which only a proper beginning does
 abbrev pub idleFits : ℕ → List ℕ → Bool
-idleFits wanted m = eqb (mark m) (mark unusedStore) && fieldsInRange m && not (eqb wanted 0)
+idleFits wanted m = eqb (mark m) (mark unusedStore) && inRange m && not (eqb wanted 0)
 
 -- how many bytes are held, and how many they ask for
 abbrev pub eraseFits : ℕ → ℕ → Erase → List ℕ → Bool
@@ -56,7 +56,7 @@ soundFits id serial model len wanted e m = identityFits id serial model && (eqb 
 abbrev pub startState : List ℕ → Bool → Started (calls.Erase Bool)
 startState m named =
     cond (eqb (length m) 128 && eqb (mark m) eraseMark) (cond named (board (calls.pending 1 false) []) (startRefused 12))
-    (cond (eqb (length m) 128 && eqb (mark m) (mark unusedStore)) (cond (named && fieldsInRange m) (board calls.idle []) (startRefused 12))
+    (cond (eqb (length m) 128 && eqb (mark m) (mark unusedStore)) (cond (named && inRange m) (board calls.idle []) (startRefused 12))
     (startRefused 11))
 
 abbrev pub startStateAs : StartState → Started (calls.Erase Bool)

@@ -10,7 +10,7 @@ ghost use Rattle.plan.specs.Stores.{entry};
 ghost use Rattle.plan.specs.Plans.{storesOf};
 ghost use Rattle.receiver.specs.View.{heldOf};
 ghost use Rattle.receiver.specs.Inner.{asked};
-ghost use Rattle.store.specs.Layout.{unusedStore};
+ghost use Rattle.layouts.specs.Layouts.{unusedStore};
 ghost use Rattle.store.specs.declared.contents.ItemBytes.{ItemBytes};
 ghost use Rattle.calls.specs.Board.{isPending, placeOf, owedOf};
 ghost use Rattle.calls.specs.Calls.{entryCheckOf, onCall, eraseStep, onStep, onStart};
@@ -33,7 +33,6 @@ use plan::Plan;
 use receiver::Receiver;
 use receiver::Reception;
 use store::contents::ItemBytes;
-use store::fields;
 use wire::packet;
 use wire::refusal::Refusal;
 
@@ -169,13 +168,13 @@ fn start_state(store: &[u8], named: bool) -> StartState
         }
         return StartState::Ready(Erase::Pending(1, false));
     }
-    if mark != fields::UNUSED_MARK {
+    if mark != layouts::UNUSED_MARK {
         return StartState::Refused(Refusal::NotAStore);
     }
     if !named {
         return StartState::Refused(Refusal::Unsound);
     }
-    if !fields::fields_in_range(store) {
+    if !layouts::in_range(store) {
         return StartState::Refused(Refusal::Unsound);
     }
     StartState::Ready(Erase::Idle)
@@ -470,7 +469,7 @@ impl Board {
         requires { ⌜ place ≤ 127 ⌝ }
         ensures { λ r. ⌜ Planning r (withErase self (Erase.Pending (place + 1) owed)) Answer.More (entry place (getD unusedStore place 0) ∷ []) ⌝ }
     {
-        let unused = fields::unused();
+        let unused = layouts::unused();
         let p = place as usize;
         let plan = Plan::one(place, unused[p]);
         Planned {
@@ -486,7 +485,7 @@ impl Board {
         ensures { λ r. ⌜ (r .board ≡ withErase self Erase.Idle) × (storesOf (r .plan) ≡ entry 0 0 ∷ []) ⌝ }
         ensures { λ r. ⌜ (answerOf (r .answer) ≡ kind.lastAnswer (stateOf self .ident) owed) × (now (reply .exit) ≡ kind.lastBuffer (stateOf self .ident) owed (now (reply .entry))) ⌝ }
     {
-        let plan = Plan::one(0, fields::UNUSED_MARK);
+        let plan = Plan::one(0, layouts::UNUSED_MARK);
         let id = self.id;
         Planned {
             board: self.with_erase(Erase::Idle),

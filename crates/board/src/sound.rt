@@ -3,7 +3,6 @@ ghost use mathlib.Core.Path.{_≡_};
 ghost use lib.ListN.{length};
 ghost use Rattle.board.specs.Inner.{identityFits, soundFits, idleFits, pendingFits};
 use crate::board::Erase;
-use store::fields;
 use wire::packet;
 
 // An identity in range, by its ID and the counts of serial number and model.
@@ -55,13 +54,13 @@ fn is_sound_idle(wanted: u8, store: &[u8]) -> bool
     requires { ⌜ length (now store) ≡ 128 ⌝ }
     ensures { λ r. ⌜ r ≡ idleFits wanted (now (store .entry)) ⌝ }
 {
-    if store[0] != fields::UNUSED_MARK {
+    if store[0] != layouts::UNUSED_MARK {
         return false;
     }
     if wanted == 0 {
         return false;
     }
-    fields::fields_in_range(store)
+    layouts::in_range(store)
 }
 
 fn is_sound_pending(len: u8, place: u8, store: &[u8]) -> bool
@@ -80,6 +79,6 @@ fn is_sound_pending(len: u8, place: u8, store: &[u8]) -> bool
     if 128 < place {
         return false;
     }
-    let unused = fields::unused();
+    let unused = layouts::unused();
     calls::is_cleared(store, &unused, place as usize)
 }

@@ -15,7 +15,7 @@ use Rattle.calls.proofs.Pending.{Pending, pending-start}
 use Rattle.packets.specs.Packets.{BoardState, BoardOutcome, isIdentity}
 use Rattle.packets.proofs.IdentityLaws.{named-told}
 use Rattle.wire.specs.Digits.{padded}
-use Rattle.store.specs.Layout.{unusedStore}
+use Rattle.layouts.specs.Layouts.{unusedStore}
 use Rattle.wire.proofs.DigitLaws.{padded-length}
 use Rattle.board.specs.BoardKind.{Call, byte, gap, boardKind}
 use Rattle.board.specs.Demand3.{Events}

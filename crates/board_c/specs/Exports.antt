@@ -15,7 +15,7 @@ use Rattle.board.specs.Demand3.{Events}
 use Rattle.board.specs.View.{answerKind}
 use Rattle.board.specs.Values.{startLeaves, callLeaves, stepLeaves, storeAfter}
 use Rattle.board.specs.declared.board.Board.{Board}
-use Rattle.store.specs.Layout.{unusedStore}
+use Rattle.layouts.specs.Layouts.{unusedStore}
 use Rattle.board_c.specs.State.{boardIn, stateBytes, stateIn}
 
 -- the place for a refusal, and the place for a reply's length: each written where there is one, else as it was

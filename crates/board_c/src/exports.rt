@@ -17,7 +17,6 @@ use board::board::Answer;
 use board::board::Board;
 use board::board::Done;
 use board::board::StartAnswer;
-use store::fields;
 use wire::digits;
 
 #[no_mangle]
@@ -89,7 +88,7 @@ pub extern "C" fn board_unused(store: &mut [u8]) -> u8
     if store.len() != 128 {
         return 11;
     }
-    let unused = fields::unused();
+    let unused = layouts::unused();
     digits::put_bytes(store, 0, &unused);
     0
 }

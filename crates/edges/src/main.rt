@@ -4,7 +4,6 @@ ghost use lib.ListN.{length};
 use board::board::Answer;
 use board::board::Board;
 use board::board::StartAnswer;
-use store::fields;
 use transcript::feed;
 use wire::digits;
 
@@ -67,7 +66,7 @@ fn check_codes() {
 
 // The erase request, then all steps; what the last two answer, and the mark after them.
 fn places() {
-    let mut store = fields::unused();
+    let mut store = layouts::unused();
     let mut reply = [0u8; 64];
     let started = board::board::start(&store, 1, b"", b"");
     let first = started.board;
@@ -95,7 +94,7 @@ fn serials() {
 // Writes a name, and the answers of an unused board to some bytes.
 fn show(name: &[u8], id: u8, bytes: &[u8]) {
     io::write_all(1, name);
-    let mut store = fields::unused();
+    let mut store = layouts::unused();
     let mut reply = [0u8; 64];
     let mut out = [0u8; 512];
     let started = board::board::start(&store, id, b"", b"");
@@ -190,7 +189,7 @@ fn show_digits(n: u8) {
 
 // A start on an unused store: whether it is refused, and its number.
 fn start_shown(serial: &[u8]) {
-    let mut store = fields::unused();
+    let mut store = layouts::unused();
     let started = board::board::start(&store, 1, serial, b"");
     let answer = started.answer;
     match answer {

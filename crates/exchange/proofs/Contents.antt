@@ -20,6 +20,7 @@ use Rattle.store.specs.Layout.{power, tagLength}
 use Rattle.store.specs.Contents.{isOn, dateOf, isStorable, isAccepted, withDate, dateStores, tagOf, formerTagOf, tagStores}
 use Rattle.wire.specs.Digits.{padded}
 use Rattle.store.proofs.StoreLaws.{in-range-one, field-applied}
+use Rattle.layouts.proofs.RangeLaws.{range-fields}
 use Rattle.store.proofs.SettingLaws.{power-moves}
 use Rattle.store.proofs.DateLaws.{storable-fits, date-keeps-field, date-keeps-byte, accepted-shown, date-applied}
 use Rattle.store.proofs.TagLaws.{TagWritten, tag-written, tag-shown, former-shown}
@@ -193,7 +194,7 @@ module _ (i : Identity) (m : List ℕ) (ready : Ready i m) where
   tag-few : read m tagLength ≤ 16
   tag-few =
       let k = read m tagLength in
-      leb-true k 16 (both (leb 0 k) (leb k 16) (in-range-one m tagLength (rest i m (ready .rests) .ranged) refl) .1)
+      leb-true k 16 (both (leb 0 k) (leb k 16) (in-range-one m tagLength (range-fields m (rest i m (ready .rests) .ranged)) refl) .1)
 
   pub tag-write : (tag : List ℕ) → IsItem tag → Changes i m (tagWrite tag) (tagWriteReply 0 tag) isTagRead mayChangeTags (TagsMoved i m tag)
   unfolding effectOf tagOf

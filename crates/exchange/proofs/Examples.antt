@@ -26,7 +26,8 @@ use Rattle.calls.specs.Lists.{answered, seen, run}
 use Rattle.calls.specs.Lists as lists
 use Rattle.calls.specs.Board.{Answer, silent, begun, reply}
 use Rattle.store.specs.Fields.{fieldStores}
-use Rattle.store.specs.Layout.{fieldsInRange, unusedStore}
+use Rattle.store.specs.Layout.{fieldsInRange}
+use Rattle.layouts.specs.Layouts.{inRange, unusedStore}
 use Rattle.store.specs.Settings.{settingAt, current}
 use Rattle.store.specs.Contents.{isOn, dateOf, isAccepted, isStorable, dateStores, withDate, tagOf, formerTagOf, tagStores, withLengths}
 use Rattle.actions.specs.Act.{Effect, replies, begins, powerControlEffect, dateWriteEffect, getEffect, setEffect, powerReadEffect, effectOf, effect}
@@ -116,7 +117,7 @@ a and b = (a, b)
 
 pub examples-hold : AllHold examples.examples
 unfolding AllHold requestType requestText packet xorFrom packetText size twoAt fourAt valueOf
-    isSound isSoundAs isIdentity mark fieldsInRange unusedStore isProperBeginning getField bit bitOf
+    isSound isSoundAs isIdentity mark inRange fieldsInRange unusedStore isProperBeginning getField bit bitOf
     requestIn getIn setIn commandIn beginsWith isName bind effectOf getEffect setEffect powerReadEffect powerControlEffect powerControlIn settingAt current isOn fieldStores putField setBit withBit
     replyWith replyType replyText parameterText
 examples-hold =
@@ -152,7 +153,7 @@ lastDay = record { year = 99; month = 12; day = 31; weekday = 4; hour = 23; minu
 
 pub row-examples-hold : AllHold examples.rowExamples
 unfolding AllHold requestType requestText packet xorFrom packetText size twoAt fourAt valueOf
-    isSound isSoundAs isIdentity mark fieldsInRange unusedStore isProperBeginning getField bit bitOf
+    isSound isSoundAs isIdentity mark inRange fieldsInRange unusedStore isProperBeginning getField bit bitOf
     requestIn getIn setIn commandIn beginsWith isName bind effectOf getEffect setEffect powerReadEffect powerControlEffect powerControlIn settingAt current isOn fieldStores putField setBit withBit
     replyWith replyType replyText parameterText
     dateOf dateWriteEffect isAccepted isStorable dateStores withDate tagOf formerTagOf tagStores padded withLengths dateIn octetsIn unhex hexOf dateText

@@ -25,7 +25,8 @@ use Rattle.messages.specs.declared.message.Item.{Item}
 use Rattle.messages.proofs.ParseLaws.{Found, request-fits}
 use Rattle.messages.proofs.RoundTrips.{reply-back, reply-length}
 use Rattle.store.specs.Fields.{Field, read}
-use Rattle.store.specs.Layout.{year, month, day, weekday, hour, minute, tagLength, formerLength, tagPlace, formerTagPlace, fieldsInRange}
+use Rattle.store.specs.Layout.{year, month, day, weekday, hour, minute, tagLength, formerLength, tagPlace, formerTagPlace}
+use Rattle.layouts.specs.Layouts.{inRange}
 use Rattle.store.specs.Settings.{Listed, fieldOf, settingAt, accepts, shown, current}
 use Rattle.store.specs.Contents.{isOn, dateOf, isAccepted, tagOf, formerTagOf}
 use Rattle.store.specs.declared.settings.Values.{Values}
@@ -113,7 +114,7 @@ module _ (m : List ℕ) where
       (λ _. record { result = omega arith; page = p; code = c; operation = omega arith; largest = l; value = w })
       (λ _. record { result = omega arith; page = p; code = c; operation = omega arith; largest = l; value = w })
 
-module _ (i : Identity) (m : List ℕ) (b : InBytes i m) (n : Named i) (ranged : fieldsInRange m ≡ true) where
+module _ (i : Identity) (m : List ℕ) (b : InBytes i m) (n : Named i) (ranged : inRange m ≡ true) where
   item-bytes : (x : Item) → Bytes (itemOf i m x)
   unfolding tagOf formerTagOf
   item-bytes Item.Serial = b .serial

@@ -11,7 +11,7 @@ use Rattle.messages.specs.Message.{Request}
 use Rattle.messages.specs.Message.Request.{getParameter, setParameter, powerControl}
 use Rattle.calls.specs.Board.{Identity, Answer, silent, begun, reply, idle, pending}
 use Rattle.calls.specs.Lists.{step, answered, run}
-use Rattle.store.specs.Layout.{unusedStore}
+use Rattle.layouts.specs.Layouts.{unusedStore}
 use Rattle.packets.specs.Packets.{BoardState}
 use Rattle.board.specs.BoardKind.{boardKind}
 use Rattle.board.specs.Demand3.{unusedBytes}

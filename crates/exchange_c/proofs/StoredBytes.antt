@@ -18,7 +18,8 @@ use Rattle.messages.proofs.ParseLaws.{Found, request-fits}
 use Rattle.receiver.specs.Receive as receive
 use Rattle.plan.specs.Stores.{applied}
 use Rattle.store.specs.Fields.{Field, fieldStores}
-use Rattle.store.specs.Layout.{power, fieldsInRange, unusedStore}
+use Rattle.store.specs.Layout.{power}
+use Rattle.layouts.specs.Layouts.{inRange, unusedStore}
 use Rattle.store.specs.Settings.{settingAt, accepts, kept, fieldOf}
 use Rattle.store.specs.Contents.{isOn, isAccepted}
 use Rattle.store.specs.declared.settings.Row.{Row}
@@ -155,7 +156,7 @@ unfolding onStart startOther
 start-by P i m given refused =
     cond-by P (eqb (length m) 128 && eqb (mark m) eraseMark) _ _ (λ _. cond-by P (isIdentity i) _ _ (λ _. given _) (λ _. refused 12))
     (λ _. cond-by P (eqb (length m) 128 && eqb (mark m) (mark unusedStore)) _ _
-    (λ _. cond-by P (isIdentity i && fieldsInRange m) _ _ (λ _. given _) (λ _. refused 12)) (λ _. refused 11))
+    (λ _. cond-by P (isIdentity i && inRange m) _ _ (λ _. given _) (λ _. refused 12)) (λ _. refused 11))
 
 -- ---- every list
 

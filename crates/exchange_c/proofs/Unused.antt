@@ -5,7 +5,7 @@ use Prim.Native.Nat.{_≤_}
 use borrow.Author.Tests.{le-leb}
 use lib.ListN.{length}
 use Rattle.messages.specs.Message.{IsItem}
-use Rattle.store.proofs.UnusedLaws.{unused-length, unused-in-range}
+use Rattle.layouts.proofs.UnusedLaws.{unused-length, unused-in-range}
 use Rattle.calls.specs.Board.{Identity}
 use Rattle.packets.specs.Packets.{isIdentity}
 use Rattle.board.specs.Demand3.{unusedBytes}

@@ -17,14 +17,16 @@ use Rattle.messages.specs.Read.{requestIn}
 use Rattle.messages.proofs.ParseLaws.{Found, request-fits}
 use Rattle.messages.specs.declared.message.Date.{Date}
 use Rattle.store.specs.Fields.{Field, fits, fieldStores}
-use Rattle.store.specs.Layout.{power, fieldsInRange}
+use Rattle.store.specs.Layout.{power}
 use Rattle.store.specs.Settings.{fieldOf, settingAt, accepts, kept}
 use Rattle.store.specs.Contents.{isOn, isStorable, isAccepted, dateStores, tagStores}
 use Rattle.store.specs.declared.settings.Row.{Row}
-use Rattle.store.proofs.StoreLaws.{SpareKept, isField, field-placed, field-keeps-mark, field-keeps-spare, in-range-write, field-applied, field-few, field-within}
+use Rattle.store.proofs.StoreLaws.{SpareKept, isField, field-placed, field-keeps-mark, field-keeps-spare, field-applied, field-few, field-within}
 use Rattle.store.proofs.SettingLaws.{setting-listed, setting-field, kept-fits}
-use Rattle.store.proofs.DateLaws.{date-keeps-byte, date-keeps-spare, in-range-date, date-applied, date-count, date-within}
-use Rattle.store.proofs.TagLaws.{tag-count, tag-within, tag-written, in-range-tag}
+use Rattle.store.proofs.DateLaws.{date-keeps-byte, date-keeps-spare, date-applied, date-count, date-within}
+use Rattle.store.proofs.TagLaws.{tag-count, tag-within, tag-written}
+use Rattle.layouts.specs.Layouts.{inRange}
+use Rattle.layouts.proofs.RangeLaws.{range-write, range-date, range-tag}
 use Rattle.calls.specs.Board.{Identity}
 use Rattle.actions.specs.Act.{
   Effect,
@@ -81,7 +83,7 @@ pub record Keeps (m : List ℕ) (es : List Entry) : Type 0 where
   pub ready : Committable 128 es
   pub mark : getD (applied es m) 0 0 ≡ getD m 0 0
   pub spare : SpareKept m (applied es m)
-  pub ranged : fieldsInRange (applied es m) ≡ true
+  pub ranged : inRange (applied es m) ≡ true
 
 abbrev pub Kept : List ℕ → Effect → Type 0
 Kept m (replies r es) = Keeps m es
@@ -91,7 +93,7 @@ within-head : (es : List Entry) → Within 12 es → Within 128 es
 within-head [] w = tt
 within-head (e ∷ es) w = (omega arith, within-head es (w .1))
 
-module _ (m : List ℕ) (size : length m ≡ 128) (ranged : fieldsInRange m ≡ true) where
+module _ (m : List ℕ) (size : length m ≡ 128) (ranged : inRange m ≡ true) where
   none-keeps : Keeps m []
   none-keeps = record { ready = record { few = omega arith; within = tt }; mark = refl; spare = record { bits = refl; bytes = λ j h. refl }; ranged = ranged }
 
@@ -104,7 +106,7 @@ module _ (m : List ℕ) (size : length m ≡ 128) (ranged : fieldsInRange m ≡ 
         ready = record { few = omega (arith, field-few m f v e); within = field-within m f v e };
         mark = rw is (field-keeps-mark m f v e);
         spare = rw is (field-keeps-spare m f v e);
-        ranged = rw is (in-range-write m f v e (omega arith) h ranged);
+        ranged = rw is (range-write m size ranged f v e (omega arith) h);
       }
 
   date-keeps : (d : Date) → isAccepted d ≡ true → Keeps m (dateStores m d)
@@ -116,7 +118,7 @@ module _ (m : List ℕ) (size : length m ≡ 128) (ranged : fieldsInRange m ≡ 
         ready = record { few = omega (arith, date-count m d (omega arith)); within = within-head (dateStores m d) (date-within m d) };
         mark = rw is (date-keeps-byte m d 0 (inl (omega arith)));
         spare = rw is (date-keeps-spare m d);
-        ranged = rw is (in-range-date m d (omega arith) storable ranged);
+        ranged = rw is (range-date m size ranged d storable);
       }
 
   tag-keeps : (tag : List ℕ) → length tag ≤ 16 → Keeps m (tagStores m tag)
@@ -125,7 +127,7 @@ module _ (m : List ℕ) (size : length m ≡ 128) (ranged : fieldsInRange m ≡ 
         ready = record { few = omega (arith, tag-count m tag size h); within = tag-within m tag size h };
         mark = tag-written m tag size h .outside 0 (inl (omega arith));
         spare = tag-written m tag size h .spare;
-        ranged = in-range-tag m tag size h ranged;
+        ranged = range-tag m size ranged tag h;
       }
 
   set-keeps : (page code v : ℕ) (q : Option Row) → settingAt page code ≡ q → Kept m (setListed m page code v q)
@@ -157,7 +159,7 @@ module _ (m : List ℕ) (size : length m ≡ 128) (ranged : fieldsInRange m ≡ 
 -- ---- every effect of a text, on a store in range
 
 module _ (i : Identity) (m : List ℕ) (kind : ℕ) (text : List ℕ) {r : Reply} {es : List Entry} (size : length m ≡ 128)
-    (ranged : fieldsInRange m ≡ true) (is : effect i m (requestIn kind text) ≡ replies r es) where
+    (ranged : inRange m ≡ true) (is : effect i m (requestIn kind text) ≡ replies r es) where
   pub effect-keeps : Keeps m es
   effect-keeps = subst (Kept m) is (option-keeps m size ranged i (requestIn kind text) (request-few kind text))
 

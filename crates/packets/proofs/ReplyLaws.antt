@@ -21,7 +21,9 @@ use Rattle.messages.specs.Text.{dateText, parameterText, itemReplyName, replyTy
 use Rattle.messages.specs.Read.{requestIn}
 use Rattle.messages.specs.declared.message.Item.{Item}
 use Rattle.store.specs.Fields.{Field, read}
-use Rattle.store.specs.Layout.{fieldsInRange, tagLength, formerLength, tagPlace, formerTagPlace}
+use Rattle.layouts.specs.Layouts.{inRange}
+use Rattle.layouts.proofs.RangeLaws.{range-fields}
+use Rattle.store.specs.Layout.{tagLength, formerLength, tagPlace, formerTagPlace}
 use Rattle.store.specs.Settings.{settingAt, accepts}
 use Rattle.store.specs.Contents.{isOn, isAccepted, tagOf, formerTagOf}
 use Rattle.store.specs.declared.settings.Row.{Row}
@@ -75,13 +77,13 @@ name-length Item.Tag = refl
 name-length Item.FormerTag = refl
 
 -- a text in the store is no longer than its length field says
-tag-few : (m : List ℕ) (f : Field) (at : ℕ) → isField f ≡ true → f .most ≡ 16 → fieldsInRange m ≡ true → length (take (read m f) (drop at m)) ≤ 16
+tag-few : (m : List ℕ) (f : Field) (at : ℕ) → isField f ≡ true → f .most ≡ 16 → inRange m ≡ true → length (take (read m f) (drop at m)) ≤ 16
 tag-few m f at e most r =
-    let h = both (leb (f .least) (read m f)) (leb (read m f) (f .most)) (in-range-one m f r e) in
+    let h = both (leb (f .least) (read m f)) (leb (read m f) (f .most)) (in-range-one m f (range-fields m r) e) in
     let k = leb-true (read m f) (f .most) (h .1) in
     rw length-take (omega (arith, min-le-left (read m f) (length (drop at m))))
 
-module _ (i : Identity) (m : List ℕ) (n : Named i) (ranged : fieldsInRange m ≡ true) where
+module _ (i : Identity) (m : List ℕ) (n : Named i) (ranged : inRange m ≡ true) where
   pub item-few : (x : Item) → length (itemOf i m x) ≤ 16
   unfolding tagOf formerTagOf
   item-few Item.Serial = n .serial
@@ -121,6 +123,6 @@ module _ (i : Identity) (m : List ℕ) (n : Named i) (ranged : fieldsInRange m �
   option-fits none h = omega arith
   option-fits (some r) h = request-fits r h
 
-pub effect-fits : (i : Identity) (m : List ℕ) (kind : ℕ) (text : List ℕ) {r : Reply} {es : List Entry} → isIdentity i ≡ true → fieldsInRange m ≡ true
+pub effect-fits : (i : Identity) (m : List ℕ) (kind : ℕ) (text : List ℕ) {r : Reply} {es : List Entry} → isIdentity i ≡ true → inRange m ≡ true
     → effect i m (requestIn kind text) ≡ replies r es → Fitting r
 effect-fits i m kind text n ranged is = subst Fits is (option-fits i m (named-told i n) ranged (requestIn kind text) (request-few kind text))

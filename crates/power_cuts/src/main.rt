@@ -4,7 +4,6 @@ ghost use mathlib.Core.Path.{_≡_};
 ghost use Prim.Native.Nat.{_≤_};
 ghost use lib.ListN.{length};
 use board::board::Board;
-use store::fields;
 
 mod list;
 mod tell;
@@ -26,7 +25,7 @@ fn play_and_compare(events: &[u16], middle: usize)
 {
     let mut lent = filled_buffers();
     let mut log = empty_log();
-    let mut store = fields::unused();
+    let mut store = layouts::unused();
     play_whole(&mut store, events, &mut lent, &mut log);
     let from = tell::parts(events, middle, &lent, &log);
     // All that is lent is used, so a buffer may have been cut: that was told.
@@ -134,7 +133,7 @@ fn play_alone(
     other_lent: &mut [u8],
     other_log: &mut [usize],
 ) {
-    let mut store = fields::unused();
+    let mut store = layouts::unused();
     let started = board::board::start(&store, 1, b"SN-1", b"M");
     let board = started.board;
     play::play(

@@ -5,7 +5,6 @@ ghost use Prim.Native.Nat.{suc, _≤_, _<_};
 ghost use lib.ListN.{length};
 ghost use Rattle.replay.specs.Sessions.{largest, nextAfter, goesOn, countedOn, AreCounted, IsAfterRead};
 use board::board::Board;
-use store::fields;
 use transcript::feed;
 use transcript::feed::Given;
 
@@ -43,7 +42,7 @@ fn main() {
         say_why(Next::WriteFailed);
         return;
     }
-    let mut store = fields::unused();
+    let mut store = layouts::unused();
     let mut reply = [0u8; 64];
     let mut out = io::large_buffer();
     let started = board::board::start(&store, 1, b"", b"");

@@ -4,4 +4,3 @@ pub mod StoreLaws
 pub mod SettingLaws
 pub mod DateLaws
 pub mod TagLaws
-pub mod UnusedLaws

@@ -1,9 +1,8 @@
--- The store (docs/RULES.md, 'Store', ST1 to ST3): 128 bytes. Byte 0 is the mark; bytes 1 to 11 hold 17 fields, packed without gaps, most
+-- The store (docs/RULES.md, 'Store', ST1 and ST2): 128 bytes. Byte 0 is the mark; bytes 1 to 11 hold 17 fields, packed without gaps, most
 -- significant bit first, and two spare bits; then the tag, the former tag and spare bytes.
 use mathlib.Core.Bool.{Bool}
 use mathlib.Core.List.{List, [], _∷_, _++_, map}
 use Prim.Native.Nat.{ℕ}
-use lib.ListN.{replicate}
 use Rattle.store.specs.Fields.{Field, field, allFit}
 use Rattle.store.specs.Settings.{settings, fieldOf}
 
@@ -70,12 +69,3 @@ formerTagPlace = 28
 -- all bytes from here on
 abbrev pub sparePlace : ℕ
 sparePlace = 44
-
--- ---- the unused board
-
-abbrev pub unusedHead : List ℕ
-unusedHead = 0x00 ∷ 0x8C ∷ 0x3C ∷ 0xC9 ∷ 0x91 ∷ 0x4A ∷ 0x0C ∷ 0x00 ∷ 0x87 ∷ 0x00 ∷ 0x00 ∷ 0x00 ∷ []
-
--- on, Saturday 1 January 2000, no tags
-unfoldable pub unusedStore : List ℕ
-unusedStore = unusedHead ++ replicate 116 0

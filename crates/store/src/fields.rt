@@ -1,17 +1,14 @@
-// Packed fields of the store, and the unused bytes.
+// Packed fields of the store.
 ghost use mathlib.Core.Path.{_≡_};
 ghost use Prim.Native.Nat.{_+_, _-_, _/_, _^_, _<_};
 ghost use lib.ListN.{length, take, drop};
 ghost use Rattle.bitfield.specs.Field.{getField, putField};
 ghost use Rattle.plan.specs.Plans.{storesOf};
 ghost use Rattle.store.specs.Fields.{fitsIn, bytesAround, allFit};
-ghost use Rattle.store.specs.Layout.{fieldsInRange, unusedStore, dateFields, lengthFields};
+ghost use Rattle.store.specs.Layout.{fieldsInRange, dateFields, lengthFields};
 ghost use Rattle.store.specs.Inner.{InStore};
 use crate::settings;
 use plan::Plan;
-
-// The mark of an unused board.
-pub const UNUSED_MARK: u8 = 0x00;
 
 // The places of the fields that are no settings: first bit and width.
 pub const POWER_AT: usize = 53;
@@ -126,19 +123,4 @@ pub fn head_of(store: &[u8]) -> [u8; 12]
     let mut head = [0u8; 12];
     wire::digits::put_bytes(&mut head, 0, &store[0..12]);
     head
-}
-
-// The 128 bytes of an unused board.
-pub fn unused() -> [u8; 128]
-    ensures { λ r. ⌜ r ≡ unusedStore ⌝ }
-{
-    let mut store = [0u8; 128];
-    store[1] = 0x8C;
-    store[2] = 0x3C;
-    store[3] = 0xC9;
-    store[4] = 0x91;
-    store[5] = 0x4A;
-    store[6] = 0x0C;
-    store[8] = 0x87;
-    store
 }

@@ -8,7 +8,7 @@ use Prim.Native.Nat.{ℕ}
 use lib.ListN.{length, getD}
 use Rattle.calls.specs.Board.{board, startRefused, pending, idle}
 use Rattle.calls.specs.Calls.{mark, eraseMark}
-use Rattle.store.specs.Layout.{fieldsInRange, unusedStore}
+use Rattle.layouts.specs.Layouts.{inRange, unusedStore}
 use Rattle.board.specs.Inner.{startState}
 use Rattle.board.proofs.board.start_state.Statement.{statement}
 use Rattle.board.proofs.board.start_state.Tie as tie
@@ -37,7 +37,7 @@ module _ (m : List ℕ) (named : Bool) where
         unfolding mark unusedStore
         unnamed n = sym (rw (eq-eqb (length m) 128 all, ne-eqb (getD m 0 0) eraseMark f, eq-eqb (getD m 0 0) 0 e, not-true named n))
 
-        module _ (n : not named ≡ false) {r : Bool} (told : r ≡ fieldsInRange m) where
+        module _ (n : not named ≡ false) {r : Bool} (told : r ≡ inRange m) where
           out-of-range : not r ≡ true → startRefused 12 ≡ startState m named
           unfolding mark unusedStore
           out-of-range h =
@@ -66,8 +66,8 @@ returns-4 c = search other-mark
 returns-5 : tie.Need-returns-5
 returns-5 c = search unnamed
 
-fields-in-range-requires : tie.Need-fields-in-range-requires
-fields-in-range-requires c κs = search needs
+in-range-requires : tie.Need-in-range-requires
+in-range-requires c κs = search needs
 
 returns-6 : tie.Need-returns-6
 returns-6 c = search out-of-range
@@ -85,6 +85,6 @@ start-state-spec =
     returns-3
     returns-4
     returns-5
-    fields-in-range-requires
+    in-range-requires
     returns-6
     returns-7)

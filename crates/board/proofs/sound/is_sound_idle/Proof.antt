@@ -6,7 +6,7 @@ use mathlib.Core.Path.{_≡_, sym, _∙_}
 use Prim.Native.Nat.{ℕ}
 use borrow.Author.Tests.{ne-eqb}
 use lib.ListN.{getD}
-use Rattle.store.specs.Layout.{fieldsInRange, unusedStore}
+use Rattle.layouts.specs.Layouts.{inRange, unusedStore}
 use Rattle.calls.specs.Calls.{mark}
 use Rattle.board.specs.Inner.{idleFits}
 use Rattle.board.proofs.sound.is_sound_idle.Statement.{statement}
@@ -22,9 +22,9 @@ module _ (w : ℕ) (m : List ℕ) where
     unfolding mark unusedStore
     not-proper e = rw (marked, e, and-false)
 
-    judged : (w ≡ 0 → ⊥) → (r : Bool) → r ≡ fieldsInRange m → r ≡ idleFits w m
+    judged : (w ≡ 0 → ⊥) → (r : Bool) → r ≡ inRange m → r ≡ idleFits w m
     unfolding mark unusedStore
-    judged f r ranged = ranged ∙ sym (rw (marked, ne-eqb w 0 f) (and-true (fieldsInRange m)))
+    judged f r ranged = ranged ∙ sym (rw (marked, ne-eqb w 0 f) (and-true (inRange m)))
 
 shared-slice-read-if1 : tie.Need-shared-slice-read-if1
 shared-slice-read-if1 c = search needs
@@ -35,12 +35,12 @@ returns c = search other-mark
 returns-2 : tie.Need-returns-2
 returns-2 c = search not-proper
 
-fields-in-range-requires : tie.Need-fields-in-range-requires
-fields-in-range-requires c κs = search needs
+in-range-requires : tie.Need-in-range-requires
+in-range-requires c κs = search needs
 
 returns-3 : tie.Need-returns-3
 returns-3 c = search judged
 
 pub is-sound-idle-spec : {M : Type 1} → statement M
 is-sound-idle-spec =
-    tie.close (tie.spec shared-slice-read-if1 returns returns-2 fields-in-range-requires returns-3)
+    tie.close (tie.spec shared-slice-read-if1 returns returns-2 in-range-requires returns-3)

@@ -5,9 +5,9 @@ use mathlib.Core.Path.{_≡_, sym, ap, _∙_}
 use lib.ListN.{length}
 use lib.Seq.{paste}
 use borrow.Author.Tests.{eq-eqb, ne-eqb}
-use Rattle.store.specs.Layout.{unusedStore}
+use Rattle.layouts.specs.Layouts.{unusedStore}
 use Rattle.store.proofs.FieldLaws.{copy-all}
-use Rattle.store.proofs.UnusedLaws.{unused-length}
+use Rattle.layouts.proofs.UnusedLaws.{unused-length}
 use Rattle.board_c.specs.Exports.{unusedResult, unusedIn}
 use borrow.Author.Needs.{needs}
 use Rattle.board_c.proofs.exports.board_unused.Statement.{statement}

@@ -8,7 +8,7 @@ use lib.ListN.{getD}
 use Rattle.plan.specs.Stores.{entry}
 use Rattle.plan.specs.Plans.{storesOf}
 use Rattle.plan.specs.declared.Plan.{Plan}
-use Rattle.store.specs.Layout.{unusedStore}
+use Rattle.layouts.specs.Layouts.{unusedStore}
 use Rattle.board.specs.Values.{withErase}
 use Rattle.board.specs.Inner.{Planning}
 use Rattle.board.specs.declared.board.Board.{Board}

@@ -6,14 +6,15 @@ use lib.Dec.{eqb}
 use lib.ListN.{length, getD}
 use borrow.Author.Tests.{eqb-true}
 use Rattle.bitfield.specs.Field.{getField, bit, bitOf}
 use Rattle.store.specs.Fields.{Field, read}
-use Rattle.store.specs.Layout.{fields, fieldsInRange, unusedStore}
+use Rattle.store.specs.Layout.{fields, fieldsInRange}
+use Rattle.layouts.specs.Layouts.{inRange, unusedStore}
 use Rattle.store.specs.declared.settings.Row.{Row}
 use Rattle.store.specs.Settings.{settings, Listed, current}
 use Rattle.store.specs.Contents.{isOn, dateOf, tagOf, formerTagOf}
 use Rattle.store.proofs.Tables.{each}
 use Rattle.store.proofs.StoreLaws.{isField, each-one}
 use Rattle.store.proofs.SettingLaws.{each-setting}
 
 pub unused-length : length unusedStore ≡ 128
 unfolding unusedStore
@@ -23,8 +24,8 @@ pub unused-mark : getD unusedStore 0 0 ≡ 0
 unfolding unusedStore
 unused-mark = refl
 
-pub unused-in-range : fieldsInRange unusedStore ≡ true
-unfolding fieldsInRange unusedStore getField bit bitOf
+pub unused-in-range : inRange unusedStore ≡ true
+unfolding inRange fieldsInRange unusedStore getField bit bitOf
 unused-in-range = refl
 
 pub unused-fields : each (λ f. eqb (read unusedStore f) (f .unused)) fields ≡ true

@@ -1,9 +1,9 @@
 -- The seven bytes that are not zero are stored in zeros.
 use borrow.Author.Needs.{needs}
 use mathlib.Core.Path.{refl}
-use Rattle.store.specs.Layout.{unusedStore}
-use Rattle.store.proofs.fields.unused.Statement.{statement}
-use Rattle.store.proofs.fields.unused.Tie as tie
+use Rattle.layouts.specs.Layouts.{unusedStore}
+use Rattle.layouts.proofs.unused.Statement.{statement}
+use Rattle.layouts.proofs.unused.Tie as tie
 
 array-write-store : tie.Need-array-write-store
 array-write-store c = search needs

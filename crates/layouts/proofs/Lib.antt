@@ -1,0 +1,2 @@
+pub mod UnusedLaws
+pub mod RangeLaws
