@@ -91,10 +91,10 @@ enum board_refusal {
  *
  * Else the state is written. Serial number and model are copied into it and may go. With 00h in byte 0 the board holds nothing and
  * no erase is pending; with E7h an erase is pending from its first step, whatever the other bytes hold, and no reply is owed.
- * The store is only read in this version.
+ * A start may store, by a rule of its layout; in this version it stores nothing.
  */
 uint8_t board_start(uint8_t id, const uint8_t *serial, size_t serial_len, const uint8_t *model, size_t model_len,
-                    const uint8_t *store, size_t store_len, uint8_t *state, size_t state_len);
+                    uint8_t *store, size_t store_len, uint8_t *state, size_t state_len);
 
 /*
  * Gives the board one byte from the line.

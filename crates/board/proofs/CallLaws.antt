@@ -48,8 +48,8 @@ use Rattle.packets.specs.declared.Planned as packets
 use Rattle.packets.proofs.Acted as acts
 use Rattle.packets.proofs.IdentityLaws.{named-told}
 use Rattle.board.specs.BoardKind.{Call, byte, gap, lends, startOther, boardKind}
-use Rattle.board.specs.View.{eraseOf, stateOf, answerOf, result, Gives, plannedOutcome, Plans, givenIdentity, startedOf}
-use Rattle.board.specs.Values.{freshBoard, noBoard, startLeaves, withReceiver, withErase, byteLeaves, callLeaves, stepLeaves}
+use Rattle.board.specs.View.{eraseOf, stateOf, answerOf, result, Gives, plannedOutcome, Plans, startRefusalIn, startRefusalOf, givenIdentity}
+use Rattle.board.specs.Values.{freshBoard, noBoard, Starts, withReceiver, withErase, byteLeaves, callLeaves, stepLeaves}
 use Rattle.board.specs.Inner.{identityFits, startState, startStateAs, eraseFits, soundFits, Sized, Accepting, Acting, Erasing, Planning, packetLeavesBy, packetLeaves}
 use Rattle.board.specs.declared.board.Erase.{Erase}
 use Rattle.board.specs.declared.board.Board.{Board}
@@ -331,20 +331,22 @@ module _ (id : ℕ) (serial model m : List ℕ) (s : StartState) (n : Bool) (nam
   start-is : onStart boardKind (givenIdentity id serial model) m ≡ startedAs (givenIdentity id serial model) (startStateAs s)
   start-is = start-told (givenIdentity id serial model) m ∙ rw (← same-named, told)
 
-  pub refused-start : (r : Started) (x : Refusal) → r .answer ≡ StartAnswer.Refused x → s ≡ StartState.Refused x
-      → startedOf r ≡ onStart boardKind (givenIdentity id serial model) m
-  refused-start r x left q = rw (start-is, q, left)
+  pub refused-answer : (x : Refusal) → s ≡ StartState.Refused x
+      → startRefusalOf (StartAnswer.Refused x) ≡ startRefusalIn (onStart boardKind (givenIdentity id serial model) m)
+  refused-answer x q = rw (start-is, q)
 
-  pub refused-value : (b : Board) (x : Refusal) → b ≡ noBoard → s ≡ StartState.Refused x → b ≡ startLeaves (onStart boardKind (givenIdentity id serial model) m)
-  refused-value b x left q = rw (start-is, q) left
+  pub ready-answer : (e : Erase) → s ≡ StartState.Ready e → startRefusalOf StartAnswer.Ready ≡ startRefusalIn (onStart boardKind (givenIdentity id serial model) m)
+  ready-answer e q = rw (start-is, q)
 
-  pub ready-start : (r : Started) (e : Erase) → r .answer ≡ StartAnswer.Ready → r .board ≡ freshBoard (givenIdentity id serial model) e
-      → s ≡ StartState.Ready e → startedOf r ≡ onStart boardKind (givenIdentity id serial model) m
-  ready-start r e left value q = rw (start-is, q, left, value, fresh-state (givenIdentity id serial model) e)
+  pub refused-start : (r : Started) (m′ : List ℕ) (x : Refusal) → r .answer ≡ StartAnswer.Refused x → r .board ≡ noBoard → m′ ≡ m → s ≡ StartState.Refused x
+      → Starts r m m′ (onStart boardKind (givenIdentity id serial model) m)
+  refused-start r m′ x left value kept q = rw (start-is, q) (record { started = rw left; value = value; store = kept })
 
-  pub ready-value : (b : Board) (e : Erase) → b ≡ freshBoard (givenIdentity id serial model) e → s ≡ StartState.Ready e
-      → b ≡ startLeaves (onStart boardKind (givenIdentity id serial model) m)
-  ready-value b e value q = rw (start-is, q, erase-back e) value
+  pub ready-start : (r : Started) (m′ : List ℕ) (e : Erase) → r .answer ≡ StartAnswer.Ready → r .board ≡ freshBoard (givenIdentity id serial model) e → m′ ≡ m
+      → s ≡ StartState.Ready e → Starts r m m′ (onStart boardKind (givenIdentity id serial model) m)
+  ready-start r m′ e left value kept q =
+      rw (start-is, q)
+      (record { started = rw (left, value, fresh-state (givenIdentity id serial model) e); value = rw (erase-back e) value; store = kept })
 
 -- ---- a gap
 

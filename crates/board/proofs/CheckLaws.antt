@@ -27,9 +27,9 @@ use Rattle.packets.specs.Packets.{BoardState, BoardOutcome, answers, isIdentity
 use Rattle.board.specs.BoardKind.{byte, gap, lastAnswer, onReceipt, startOther, boardKind}
 use Rattle.board.specs.BoardKind as board
 use Rattle.wire.specs.Checks.{Check, firstFailed}
+use Rattle.board.specs.View.{startRefusalIn}
 use Rattle.board.specs.Demand1.{
   refusalIn,
-  startRefusalIn,
   isType,
   isL,
   headerChecks,

@@ -21,12 +21,12 @@ use Rattle.calls.specs.Calls.{same, onCall, onStep, onStart}
 use Rattle.packets.specs.Packets.{BoardState, BoardOutcome}
 use Rattle.board.specs.BoardKind.{Call, byte, gap, boardKind}
 use Rattle.board.specs.Demand3.{unusedBytes}
-use Rattle.board.specs.View.{stateOf}
+use Rattle.board.specs.View.{stateOf, startRefusalIn}
 use Rattle.board.specs.Values.{startLeaves}
 
 -- ---- refusals
 
--- the number that an answer, or a start, refuses with
+-- the number that an answer refuses with
 abbrev pub refusalIn : Answer ℕ → Option ℕ
 refusalIn waiting = none
 refusalIn silent = none
@@ -35,10 +35,6 @@ refusalIn more = none
 refusalIn ended = none
 refusalIn (refused n) = some n
 refusalIn (reply n) = none
-
-abbrev pub startRefusalIn : Started BoardState → Option ℕ
-startRefusalIn (board s es) = none
-startRefusalIn (startRefused n) = some n
 
 -- ---- a header and a packet
 

@@ -1,6 +1,7 @@
 -- A board's value (docs/RULES.md, XB4): what a start and the calls leave in it, the bytes behind counts included.
 use mathlib.Core.Bool.{Bool, cond}
 use mathlib.Core.List.{List, [], _∷_}
+use mathlib.Core.Path.{_≡_}
 use Prim.Native.Nat.{ℕ, _+_}
 use lib.ListN.{length}
 use Rattle.wire.specs.Refusal.{changesNothing}
@@ -15,9 +16,10 @@ use Rattle.packets.specs.Packets.{BoardState, BoardOutcome}
 use Rattle.plan.specs.Stores.{applied}
 use Rattle.board.specs.BoardKind.{Call, byte, gap, boardKind}
 use Rattle.board.specs.Demand3.{Events}
-use Rattle.board.specs.View.{stateOf}
+use Rattle.board.specs.View.{stateOf, startedOf, bare}
 use Rattle.board.specs.declared.board.Erase.{Erase}
 use Rattle.board.specs.declared.board.Board.{Board}
+use Rattle.board.specs.declared.board.Started.{Started}
 
 -- ---- the one fresh value of an identity
 
@@ -42,6 +44,17 @@ noBoard = freshBoard (record { id = 0; serial = []; model = [] }) Erase.Idle
 abbrev pub startLeaves : calls.Started BoardState → Board
 startLeaves (calls.board s es) = freshBoard (s .ident) (eraseFrom (s .erase))
 startLeaves (calls.startRefused n) = noBoard
+
+-- the store that a start leaves
+abbrev pub storeStarted : calls.Started BoardState → List ℕ → List ℕ
+storeStarted (calls.board s es) m = applied es m
+storeStarted (calls.startRefused n) m = m
+
+-- a start gave an outcome: a board or a refusal, the board's value, and its stores applied
+pub record Starts (r : Started) (m m′ : List ℕ) (o : calls.Started BoardState) : Type 0 where
+  pub started : startedOf r ≡ bare o
+  pub value : r .board ≡ startLeaves o
+  pub store : m′ ≡ storeStarted o m
 
 -- ---- the calls
 
@@ -81,10 +94,6 @@ abbrev pub stepLeaves : Board → BoardOutcome → Board
 stepLeaves b o = withErase b (eraseFrom (o .state .erase))
 
 -- ---- lists of calls and power cuts
-
-abbrev pub storeStarted : calls.Started BoardState → List ℕ → List ℕ
-storeStarted (calls.board s es) m = applied es m
-storeStarted (calls.startRefused n) m = m
 
 -- the value and the store after an event
 unfoldable pub valueAfter : calls.Identity → Board → List ℕ → Event Call → Board

@@ -2,6 +2,7 @@
 -- through their counts; what else a call leaves in a board's value stands in Values.antt.
 use mathlib.Core.Bool.{Bool}
 use mathlib.Core.List.{List, []}
+use mathlib.Core.Option.{Option, none, some}
 use mathlib.Core.Path.{_≡_}
 use Prim.Native.Nat.{ℕ}
 use Rattle.wire.specs.Refusal.{numberOf}
@@ -89,3 +90,17 @@ startedWith (StartAnswer.Refused r) b = calls.startRefused (numberOf r)
 
 abbrev pub startedOf : Started → calls.Started BoardState
 startedOf s = startedWith (s .answer) (s .board)
+
+-- a start but for what it stores
+abbrev pub bare : calls.Started BoardState → calls.Started BoardState
+bare (calls.board s es) = calls.board s []
+bare (calls.startRefused n) = calls.startRefused n
+
+-- the number that a start refuses with
+abbrev pub startRefusalIn : calls.Started BoardState → Option ℕ
+startRefusalIn (calls.board s es) = none
+startRefusalIn (calls.startRefused n) = some n
+
+abbrev pub startRefusalOf : StartAnswer → Option ℕ
+startRefusalOf StartAnswer.Ready = none
+startRefusalOf (StartAnswer.Refused r) = some (numberOf r)

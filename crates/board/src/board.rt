@@ -20,8 +20,8 @@ ghost use Rattle.packets.specs.Packets.{onPacket};
 ghost use Rattle.packets.specs.Inner.{answerAfter};
 ghost use Rattle.board.specs.BoardKind as kind;
 ghost use Rattle.board.specs.BoardKind.{boardKind};
-ghost use Rattle.board.specs.View.{eraseOf, stateOf, answerOf, answerKind, Gives, Plans, startedOf, givenIdentity};
-ghost use Rattle.board.specs.Values.{itemValue, freshBoard, noBoard, startLeaves, withReceiver, withErase, callLeaves, stepLeaves};
+ghost use Rattle.board.specs.View.{eraseOf, stateOf, answerOf, answerKind, Gives, Plans, startRefusalIn, startRefusalOf, givenIdentity};
+ghost use Rattle.board.specs.Values.{itemValue, freshBoard, noBoard, Starts, withReceiver, withErase, callLeaves, stepLeaves};
 ghost use Rattle.board.specs.Inner.{startStateAs, startState, Sized, Accepting, Acting, Erasing, Planning, packetLeaves};
 use crate::sound;
 use calls::EntryCheck;
@@ -138,10 +138,24 @@ pub struct Started {
     pub board: Board,
 }
 
+// What a start on a store answers. Nothing is stored.
+pub fn start_answer(store: &[u8], id: u8, serial: &[u8], model: &[u8]) -> StartAnswer
+    ensures { λ r. ⌜ startRefusalOf r ≡ startRefusalIn (onStart boardKind (givenIdentity id (now (serial .entry)) (now (model .entry))) (now (store .entry))) ⌝ }
+{
+    let named = sound::is_identity(id, serial.len(), model.len());
+    match start_state(store, named) {
+        StartState::Refused(refusal) => {
+            return StartAnswer::Refused(refusal);
+        }
+        StartState::Ready(_) => {
+            return StartAnswer::Ready;
+        }
+    }
+}
+
 // Starts a board on a store.
-pub fn start(store: &[u8], id: u8, serial: &[u8], model: &[u8]) -> Started
-    ensures { λ r. ⌜ startedOf r ≡ onStart boardKind (givenIdentity id (now (serial .entry)) (now (model .entry))) (now (store .entry)) ⌝ }
-    ensures { λ r. ⌜ r .board ≡ startLeaves (onStart boardKind (givenIdentity id (now (serial .entry)) (now (model .entry))) (now (store .entry))) ⌝ }
+pub fn start(store: &mut [u8], id: u8, serial: &[u8], model: &[u8]) -> Started
+    ensures { λ r. ⌜ Starts r (now (store .entry)) (now (store .exit)) (onStart boardKind (givenIdentity id (now (serial .entry)) (now (model .entry))) (now (store .entry))) ⌝ }
 {
     let named = sound::is_identity(id, serial.len(), model.len());
     match start_state(store, named) {

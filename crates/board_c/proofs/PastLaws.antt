@@ -28,7 +28,7 @@ use Rattle.board.proofs.PastLaws.{pendingBoard, Next, continues, ended, next-of
 use Rattle.board.proofs.BoardLaws.{board-laws}
 use Rattle.board.proofs.RefusalLaws.{refused-by-check, step-refused}
 use Rattle.board_c.specs.State.{boardIn, stateBytes, stateIn}
-use Rattle.board_c.specs.Exports.{keepsAll, stateLeft, startIn, stateStarted, stateAfter, stateAfterAll}
+use Rattle.board_c.specs.Exports.{keepsAll, stateLeft, startIn, stateStarted, stateAfter, storedAfter, stateAfterAll}
 use Rattle.board_c.proofs.StateLaws.{size-of, back}
 use Rattle.board_c.proofs.AnswerLaws.{kept-by}
 
@@ -97,6 +97,12 @@ module _ (i : Identity) (n : ℕ) (owed : Bool) (m : List ℕ) (h : Pending boar
       rw read (left-bytes v (stepLeaves v) (onStep boardKind (stateOf v) m lent) (step-kept lent))
   follows cut = rw (pending-start h, eq-eqb _ _ (size-of (pendingBoard i n owed) (fresh-sized i (Erase.Pending (suc n) owed) (h .named))))
 
+  stores-follow : (e : Event Call) → storedAfter i (stateBytes (pendingBoard i n owed)) m e ≡ storeAfter i (pendingBoard i n owed) m e
+  unfolding storedAfter storeAfter startIn
+  stores-follow (call c lent) = rw read
+  stores-follow (step lent) = rw read
+  stores-follow cut = rw (pending-start h, eq-eqb _ _ (size-of (pendingBoard i n owed) (fresh-sized i (Erase.Pending (suc n) owed) (h .named))))
+
 nothing-more : (i : Identity) (s m : List ℕ) (es : Events) → isLast es ≡ true → stateAfterAll i s m es ≡ s
 unfolding stateAfterAll isLast
 nothing-more i s m [] e = refl
@@ -107,7 +113,7 @@ pending-erased : (es : Events) (i : Identity) (n : ℕ) (owed : Bool) (m : List 
 unfolding stateAfterAll ends
 pending-erased [] i n owed m h e = cc
 pending-erased (x ∷ es) i n owed m h e =
-    rw (follows i n owed m h x, read i n owed m h) (go (next-of i n owed m h x) (λ n′ owed′ k. pending-erased es i n′ owed′ k))
+    rw (follows i n owed m h x, stores-follow i n owed m h x) (go (next-of i n owed m h x) (λ n′ owed′ k. pending-erased es i n′ owed′ k))
   where
     m′ : List ℕ
     m′ = storeAfter i (pendingBoard i n owed) m x
@@ -135,7 +141,7 @@ module _ (s m : List ℕ) (c : Call) (lent : List ℕ) (a : onCall boardKind c (
       begins o e = rw e
 
   erased-fresh : (es : Events) → ends 0 es ≡ true → stateAfterAll (stateIn s .ident) s m (call c lent ∷ es) ≡ stateBytes (freshBoard (stateIn s .ident) Erase.Idle)
-  unfolding stateAfterAll
+  unfolding stateAfterAll storedAfter storeAfter
   erased-fresh es e =
       rw accepted-bytes (pending-erased es (stateIn s .ident) 0 (boardKind .owes c (stateIn s)) _ (accepted-pending (boardIn s) m c lent a) e)
 

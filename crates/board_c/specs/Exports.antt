@@ -13,7 +13,7 @@ use Rattle.calls.specs.Lists.{Event, call, step, cut}
 use Rattle.board.specs.BoardKind.{Call, boardKind}
 use Rattle.board.specs.Demand3.{Events}
 use Rattle.board.specs.View.{answerKind}
-use Rattle.board.specs.Values.{startLeaves, callLeaves, stepLeaves, storeAfter}
+use Rattle.board.specs.Values.{startLeaves, storeStarted, callLeaves, stepLeaves}
 use Rattle.board.specs.declared.board.Board.{Board}
 use Rattle.layouts.specs.Layouts.{unusedStore}
 use Rattle.board_c.specs.State.{boardIn, stateBytes, stateIn}
@@ -85,10 +85,11 @@ abbrev pub StateShown : Started BoardState → List ℕ → Type 0
 StateShown (board s es) after = stateIn after ≡ s
 StateShown (startRefused n) after = Unit {0}
 
-pub record Starts (o : Started BoardState) (r : ℕ) (stateBefore stateAfter : List ℕ) : Type 0 where
+pub record Starts (o : Started BoardState) (r : ℕ) (stateBefore stateAfter storeBefore storeAfter : List ℕ) : Type 0 where
   pub result : r ≡ startResult o
   pub state : StateShown o stateAfter
   pub bytes : stateAfter ≡ stateStarted o stateBefore
+  pub stored : storeAfter ≡ storeStarted o storeBefore
 
 -- ---- the state's bytes after lists of calls and power cuts
 
@@ -97,9 +98,15 @@ stateAfter i s m (call c lent) = stateLeft (callLeaves c (boardIn s)) (onCall bo
 stateAfter i s m (step lent) = stateLeft (stepLeaves (boardIn s)) (onStep boardKind (stateIn s) m lent) s
 stateAfter i s m cut = stateStarted (startIn (length s) (onStart boardKind i m)) s
 
+-- the store after it; a refused start stores nothing
+unfoldable pub storedAfter : Identity → List ℕ → List ℕ → Event Call → List ℕ
+storedAfter i s m (call c lent) = after (onCall boardKind c (stateIn s) m lent) m
+storedAfter i s m (step lent) = after (onStep boardKind (stateIn s) m lent) m
+storedAfter i s m cut = storeStarted (startIn (length s) (onStart boardKind i m)) m
+
 unfoldable pub stateAfterAll : Identity → List ℕ → List ℕ → Events → List ℕ
 stateAfterAll i s m [] = s
-stateAfterAll i s m (e ∷ es) = stateAfterAll i (stateAfter i s m e) (storeAfter i (boardIn s) m e) es
+stateAfterAll i s m (e ∷ es) = stateAfterAll i (stateAfter i s m e) (storedAfter i s m e) es
 
 -- ---- the unused store: 0, or 11 where the slice has not 128 bytes
 

@@ -24,19 +24,19 @@ pub extern "C" fn board_start(
     id: u8,
     serial: &[u8],
     model: &[u8],
-    store: &[u8],
+    store: &mut [u8],
     state: &mut [u8],
 ) -> u8
-    ensures { λ r. ⌜ Starts (startIn (length (now (state .entry))) (onStart boardKind (givenIdentity id (now (serial .entry)) (now (model .entry))) (now (store .entry)))) r (now (state .entry)) (now (state .exit)) ⌝ }
+    ensures { λ r. ⌜ Starts (startIn (length (now (state .entry))) (onStart boardKind (givenIdentity id (now (serial .entry)) (now (model .entry))) (now (store .entry)))) r (now (state .entry)) (now (state .exit)) (now (store .entry)) (now (store .exit)) ⌝ }
 {
-    let started = on_board::start(store, id, serial, model);
-    let answer = started.answer;
+    let answer = on_board::start_answer(store, id, serial, model);
     if let StartAnswer::Refused(refusal) = answer {
         return refusal.number();
     }
     if state.len() != state::SIZE {
         return 12;
     }
+    let started = on_board::start(store, id, serial, model);
     let next = started.board;
     put_state(next, state);
     0

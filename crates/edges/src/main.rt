@@ -68,7 +68,7 @@ fn check_codes() {
 fn places() {
     let mut store = layouts::unused();
     let mut reply = [0u8; 64];
-    let started = board::board::start(&store, 1, b"", b"");
+    let started = board::board::start(&mut store, 1, b"", b"");
     let first = started.board;
     let asked = after_bytes(
         first,
@@ -97,7 +97,7 @@ fn show(name: &[u8], id: u8, bytes: &[u8]) {
     let mut store = layouts::unused();
     let mut reply = [0u8; 64];
     let mut out = [0u8; 512];
-    let started = board::board::start(&store, id, b"", b"");
+    let started = board::board::start(&mut store, id, b"", b"");
     let board = started.board;
     show_lines(board, &mut store, bytes, &mut reply, &mut out);
 }
@@ -190,7 +190,7 @@ fn show_digits(n: u8) {
 // A start on an unused store: whether it is refused, and its number.
 fn start_shown(serial: &[u8]) {
     let mut store = layouts::unused();
-    let started = board::board::start(&store, 1, serial, b"");
+    let started = board::board::start(&mut store, 1, serial, b"");
     let answer = started.answer;
     match answer {
         StartAnswer::Ready => {

@@ -3,7 +3,8 @@ use types.Run.{OneOf, miss}
 use denote.Enum.Declared.{tagOf}
 use mathlib.Core.Bool.{true, false, true≢false}
 use mathlib.Core.List.{List, [], _∷_, _++_, append-assoc}
-use mathlib.Core.Path.{_≡_, refl, ap, _∙_}
+use mathlib.Core.Option.{Option·some-ne-none}
+use mathlib.Core.Path.{_≡_, refl, sym, ap, _∙_}
 use Prim.Native.Nat.{ℕ, _+_, _≤_, _<_}
 use native.Mathlib.Omega.{arith}
 use borrow.Author.Tests.{le-ltb, lt-ltb, ne-eqb}
@@ -11,13 +12,15 @@ use lib.ListN.{length, set, drop, length-append}
 use lib.Seq.{drop-drop, drop-at}
 use Rattle.wire.specs.Packet.{over}
 use Rattle.wire.specs.Refusal.{numberOf}
+use Rattle.calls.specs.Board as calls
 use Rattle.calls.specs.Board.{Identity, after}
 use Rattle.calls.specs.Calls.{EntryCheck, refusedEntry, nonePendingEntry, pendingEntry, refuse, entryCheckOf, callOn, onCall, onStep, onStart}
 use Rattle.calls.specs.Lists.{Event, call, step, cut, answered, seen, from, run}
 use Rattle.packets.specs.Packets.{BoardState, BoardOutcome}
 use Rattle.board.specs.BoardKind.{Call, byte, gap, does, boardKind}
-use Rattle.board.specs.Demand3.{Events}
-use Rattle.board.specs.View.{answerOf, answerKind, gave, startedOf, Result, result}
+use Rattle.board.specs.Demand3.{Events, Trace}
+use Rattle.board.specs.View.{answerOf, answerKind, gave, startedWith, bare, startRefusalIn, Result, result}
+use Rattle.board.specs.Values.{storeStarted, Starts}
 use Rattle.board.specs.declared.board.Answer.{Answer}
 use Rattle.board.specs.declared.board.Done.{Done}
 use Rattle.board.specs.declared.board.Started.{Started}
@@ -134,18 +137,41 @@ module _ (i : Identity) (s : BoardState) (k : ℕ) (t : Turn) (m m′ lent lent�
     step-turns e h = rw (step-event k lent h) (shown i s _ t d m m′ lent′ _ made e (λ es. refl))
 
   pub cut-turns : Restarts t i m m′ → 256 ≤ k → (k ≡ 256 → ⊥) → (k ≡ 257 → ⊥) → Turns t i s (eventOf k lent) m m′ lent
-  cut-turns r h g n = rw (cut-event k lent h g n) (record { traced = r .traced s lent; kept = λ _. r .same })
+  cut-turns r h g n = rw (cut-event k lent h g n) (record { traced = r .traced s lent; kept = r .kept })
 
 -- ---- what a start shows
 
-module _ (i : Identity) (r : Started) (m m′ : List ℕ) (told : startedOf r ≡ onStart boardKind i m) (same : m′ ≡ m) where
+-- what follows a start goes by its board and by the store that it leaves
+from-bare : (o : calls.Started BoardState) (m m′ : List ℕ) (k : BoardState → List ℕ → Trace) → m′ ≡ storeStarted o m
+    → from boardKind (bare o) m′ k ≡ from boardKind o m k
+unfolding from
+from-bare (calls.board s es) m m′ k e = ap (k s) e
+from-bare (calls.startRefused n) m m′ k e = refl
+
+refused-keeps : (o : calls.Started BoardState) (m : List ℕ) (n : ℕ) → calls.startRefused n ≡ bare o → storeStarted o m ≡ m
+refused-keeps (calls.board s es) m n e = absurd (Option·some-ne-none _ (ap startRefusalIn e))
+refused-keeps (calls.startRefused k) m n e = refl
+
+module _ (i : Identity) (r : Started) (m m′ : List ℕ) (told : Starts r m m′ (onStart boardKind i m)) where
+  answer-is : (w : StartAnswer) → r .answer ≡ w → startedWith w (r .board) ≡ bare (onStart boardKind i m)
+  answer-is w v = ap (λ (w : StartAnswer). startedWith w (r .board)) (sym v) ∙ told .started
+
+  goes-on : (w : StartAnswer) (k : BoardState → List ℕ → Trace) → r .answer ≡ w
+      → from boardKind (startedWith w (r .board)) m′ k ≡ from boardKind (onStart boardKind i m) m k
+  goes-on w k v =
+      ap (λ (o : calls.Started BoardState). from boardKind o m′ k) (answer-is w v) ∙ from-bare (onStart boardKind i m) m m′ k (told .store)
+
   pub started-again : r .answer ≡ StartAnswer.Ready → Restarts (record { board = r .board; seen = Seen.Started }) i m m′
   unfolding run from
-  started-again v = record { traced = λ s lent es. rw (← told, v, same); same = same }
+  started-again v = record { traced = λ s lent es. goes-on StartAnswer.Ready _ v; kept = λ g. absurd (true≢false g) }
 
   pub refused-again : (q : Refusal) → r .answer ≡ StartAnswer.Refused q → Restarts (record { board = r .board; seen = Seen.Unstarted q }) i m m′
   unfolding run from
-  refused-again q v = record { traced = λ s lent es. rw (← told, v); same = same }
+  refused-again q v =
+      record {
+        traced = λ s lent es. goes-on (StartAnswer.Refused q) _ v;
+        kept = λ g. told .store ∙ refused-keeps (onStart boardKind i m) m (numberOf q) (answer-is (StartAnswer.Refused q) v);
+      }
 
 -- ---- what is entered
 

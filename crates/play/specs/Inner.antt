@@ -47,7 +47,7 @@ pub record Turns (t : Turn) (i : Identity) (s : BoardState) (e : Event Call) (m 
 -- the same of a power cut, for any board before it
 pub record Restarts (t : Turn) (i : Identity) (m m′ : List ℕ) : Type 0 where
   pub traced : (s : BoardState) (lent : List ℕ) (es : Events) → traceOf t i m′ lent es ≡ run boardKind i s m (cut ∷ es)
-  pub same : m′ ≡ m
+  pub kept : goesOn (t .seen) ≡ false → m′ ≡ m
 
 -- what is seen of an event stands at the start of the log; whether there is a board after it
 pub record Enters (s : Seen) (more : Bool) (m log log′ : List ℕ) : Type 0 where

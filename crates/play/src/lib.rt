@@ -233,7 +233,7 @@ fn answered(done: Done) -> Turn
     }
 }
 
-// A power cut's start, on the store as it is, and is left.
+// A power cut's start, on the store as it is.
 fn start_again(store: &mut [u8], id: u8, serial: &[u8], model: &[u8]) -> Turn
     ensures { λ r. ⌜ Restarts r (givenIdentity id (now (serial .entry)) (now (model .entry))) (now (store .entry)) (now (store .exit)) ⌝ }
 {

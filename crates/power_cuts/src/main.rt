@@ -134,7 +134,7 @@ fn play_alone(
     other_log: &mut [usize],
 ) {
     let mut store = layouts::unused();
-    let started = board::board::start(&store, 1, b"SN-1", b"M");
+    let started = board::board::start(&mut store, 1, b"SN-1", b"M");
     let board = started.board;
     play::play(
         board,

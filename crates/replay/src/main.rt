@@ -45,7 +45,7 @@ fn main() {
     let mut store = layouts::unused();
     let mut reply = [0u8; 64];
     let mut out = io::large_buffer();
-    let started = board::board::start(&store, 1, b"", b"");
+    let started = board::board::start(&mut store, 1, b"", b"");
     let board = started.board;
     let session = Session {
         board,

@@ -9,7 +9,7 @@ extern "C" {
         serial_len: usize,
         model: *const u8,
         model_len: usize,
-        store: *const u8,
+        store: *mut u8,
         store_len: usize,
         state: *mut u8,
         state_len: usize,

@@ -1,6 +1,6 @@
 -- What a start on the store comes to decides whether a board is given.
 use borrow.Author.Needs.{needs}
-use Rattle.board.proofs.CallLaws.{serial-few, model-few, refused-start, refused-value, ready-start, ready-value}
+use Rattle.board.proofs.CallLaws.{serial-few, model-few, refused-start, ready-start}
 use Rattle.board.proofs.board.start.Statement.{statement}
 use Rattle.board.proofs.board.start.Tie as tie
 
@@ -16,8 +16,11 @@ enum-known-refusal c = search needs
 refused-requires : tie.Need-refused-requires
 refused-requires c κs = search needs
 
+same-length : tie.Need-same-length
+same-length c = search needs
+
 returns : tie.Need-returns
-returns c = (search refused-start, search refused-value)
+returns c = search refused-start
 
 enum-known-erase : tie.Need-enum-known-erase
 enum-known-erase c = search needs
@@ -25,8 +28,11 @@ enum-known-erase c = search needs
 ready-requires : tie.Need-ready-requires
 ready-requires c κs = (search serial-few, search model-few)
 
+same-length-2 : tie.Need-same-length-2
+same-length-2 c = search needs
+
 returns-2 : tie.Need-returns-2
-returns-2 c = (search ready-start, search ready-value)
+returns-2 c = search ready-start
 
 pub start-spec : {M : Type 1} → statement M
 start-spec =
@@ -36,7 +42,9 @@ start-spec =
     start-state-requires
     enum-known-refusal
     refused-requires
+    same-length
     returns
     enum-known-erase
     ready-requires
+    same-length-2
     returns-2)
