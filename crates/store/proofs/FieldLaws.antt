@@ -50,7 +50,7 @@ drop-bit n s k b =
     let j : (8 * n + k) % 8 ≡ k % 8 = omega arith in
     rw (i, j, getD-drop n s (k / 8) 0) (drop-set-add n s (k / 8) _)
 
-drop-put : (n : ℕ) (s : List ℕ) (at width v : ℕ) → drop n (putField s (8 * n + at) width v) ≡ putField (drop n s) at width v
+pub drop-put : (n : ℕ) (s : List ℕ) (at width v : ℕ) → drop n (putField s (8 * n + at) width v) ≡ putField (drop n s) at width v
 unfolding putField
 drop-put n s at zero v = refl
 drop-put n s at (suc width) v =
@@ -73,7 +73,7 @@ drop-take zero n l = rw (zero-add n)
 drop-take (suc a) n [] = simp take-nil
 drop-take (suc a) n (x ∷ l) = rw (suc-add a n) (drop-take a n l)
 
-part-of-first : (a e n : ℕ) (l : List ℕ) → a ≤ e → e ≤ n → take (e - a) (drop a (take n l)) ≡ take (e - a) (drop a l)
+pub part-of-first : (a e n : ℕ) (l : List ℕ) → a ≤ e → e ≤ n → take (e - a) (drop a (take n l)) ≡ take (e - a) (drop a l)
 part-of-first a e n l h k =
     let q : n ≡ a + (n - a) = omega arith in
     ap (λ (m : ℕ). take (e - a) (drop a (take m l))) q

@@ -1,0 +1,74 @@
+-- Seven fields, one after another.
+use borrow.Author.Needs.{needs}
+use native.Mathlib.Nat.{add-zero}
+use Rattle.schedule.proofs.programs.program_at.Statement.{statement}
+use Rattle.schedule.proofs.programs.program_at.Tie as tie
+
+mul-at : tie.Need-mul-at
+mul-at c = search needs
+
+add-at : tie.Need-add-at
+add-at c = search needs
+
+field-at-requires : tie.Need-field-at-requires
+field-at-requires c κs = search needs
+
+add-field-at : tie.Need-add-field-at
+add-field-at c = search needs
+
+field-at-requires-2 : tie.Need-field-at-requires-2
+field-at-requires-2 c κs = search needs
+
+add-field-at-2 : tie.Need-add-field-at-2
+add-field-at-2 c = search needs
+
+field-at-requires-3 : tie.Need-field-at-requires-3
+field-at-requires-3 c κs = search needs
+
+add-field-at-3 : tie.Need-add-field-at-3
+add-field-at-3 c = search needs
+
+field-at-requires-4 : tie.Need-field-at-requires-4
+field-at-requires-4 c κs = search needs
+
+add-field-at-4 : tie.Need-add-field-at-4
+add-field-at-4 c = search needs
+
+field-at-requires-5 : tie.Need-field-at-requires-5
+field-at-requires-5 c κs = search needs
+
+add-field-at-5 : tie.Need-add-field-at-5
+add-field-at-5 c = search needs
+
+field-at-requires-6 : tie.Need-field-at-requires-6
+field-at-requires-6 c κs = search needs
+
+add-field-at-6 : tie.Need-add-field-at-6
+add-field-at-6 c = search needs
+
+field-at-requires-7 : tie.Need-field-at-requires-7
+field-at-requires-7 c κs = search needs
+
+returns : tie.Need-returns
+returns c = simp add-zero cc
+
+pub program-at-spec : {M : Type 1} → statement M
+program-at-spec =
+    tie.close
+    (tie.spec
+    mul-at
+    add-at
+    field-at-requires
+    add-field-at
+    field-at-requires-2
+    add-field-at-2
+    field-at-requires-3
+    add-field-at-3
+    field-at-requires-4
+    add-field-at-4
+    field-at-requires-5
+    add-field-at-5
+    field-at-requires-6
+    add-field-at-6
+    field-at-requires-7
+    returns)

@@ -1,0 +1,3 @@
+// Weekly schedules: seven programs in the store, and their sixteen numbers as sent.
+pub mod numbers;
+pub mod programs;
