@@ -71,8 +71,8 @@ enum board_refusal {
     BOARD_REFUSED_DESTINATION = 8,      /* the packet is for another board */
     BOARD_REFUSED_ERASE_PENDING = 9,    /* a byte or a gap while an erase is pending */
     BOARD_REFUSED_SHORT_BUFFER = 10,    /* the room for a reply is below BOARD_REPLY_ROOM */
-    BOARD_REFUSED_NOT_A_STORE = 11,     /* start: not 128 bytes, or byte 0 neither 00h nor E7h */
-    BOARD_REFUSED_UNSOUND = 12,         /* state, store, its fields or the identity are not sound */
+    BOARD_REFUSED_NOT_A_STORE = 11,     /* start: not 128 bytes, or byte 0 neither 00h, 01h nor E7h */
+    BOARD_REFUSED_UNSOUND = 12,         /* state, store, its fields, its programs or the identity are not sound */
     BOARD_REFUSED_NO_ERASE_PENDING = 13 /* a step with no erase pending */
 };
 
@@ -85,16 +85,21 @@ enum board_refusal {
  *   store, store_len    the store, of BOARD_STORE_SIZE bytes
  *   state, state_len    the place for the board's state, of BOARD_STATE_SIZE bytes; what it holds before does not matter
  *
- * The result is 0, or a refusal, checked in this order: 11 where store_len is not 128, or byte 0 of the store is neither 00h nor
- * E7h; 12 where the identity is outside these ranges, or byte 0 is 00h and a field of the store is out of range; 12 where state_len
- * is not 111. A refused start writes nothing.
+ * Byte 0 of the store is its mark: 01h with programs in bytes 44 to 78; 00h of a store that is older than the programs and may hold
+ * anything there; E7h while an erase is pending.
  *
- * Else the state is written. Serial number and model are copied into it and may go. With 00h in byte 0 the board holds nothing and
- * no erase is pending; with E7h an erase is pending from its first step, whatever the other bytes hold, and no reply is owed.
- * A start may store, by a rule of its layout; in this version it stores nothing.
+ * The result is 0, or a refusal, checked in this order: 11 where store_len is not 128, or the mark is none of these; 12 where the
+ * identity is outside these ranges, where with 00h or 01h a field is out of range, or where with 01h a program is; 12 where
+ * state_len is not 111. A refused start writes nothing, neither to the state nor to the store.
+ *
+ * Else the state is written. Serial number and model are copied into it and may go. With 00h or 01h the board holds nothing and no
+ * erase is pending; with E7h an erase is pending from its first step, whatever the other bytes hold, and no reply is owed.
+ *
+ * A start on 00h stores 36 bytes: unused programs, C7 98 F0 00 00 seven times, in bytes 44 to 78, and then the mark 01h. A start on
+ * 01h or E7h stores nothing. So a board that runs has the mark 01h or E7h.
  */
-uint8_t board_start(uint8_t id, const uint8_t *serial, size_t serial_len, const uint8_t *model, size_t model_len,
-                    uint8_t *store, size_t store_len, uint8_t *state, size_t state_len);
+uint8_t board_start(uint8_t id, const uint8_t *serial, size_t serial_len, const uint8_t *model, size_t model_len, uint8_t *store,
+                    size_t store_len, uint8_t *state, size_t state_len);
 
 /*
  * Gives the board one byte from the line.
@@ -113,9 +118,9 @@ uint8_t board_start(uint8_t id, const uint8_t *serial, size_t serial_len, const 
  * BOARD_REPLY writes the length to `size` and so many bytes to the start of `reply`; BOARD_REFUSED writes the number to `refusal`.
  * Each of the three is else as it was, `reply` behind its length too.
  *
- * A packet that is acted on may change the store: an accepted Set one setting, a power, date or tag write what it names, and an
- * accepted erase byte 0, which becomes E7h. With BOARD_WAITING and all refusals the store is as it was. With refusals 1 and 9 to 13
- * the state, too, is byte for byte as it was.
+ * A packet that is acted on may change the store: an accepted Set one setting, a power, date, tag or schedule write what it names,
+ * an enable one bit of a program, and an accepted erase byte 0, which becomes E7h. With BOARD_WAITING and all refusals the store is
+ * as it was. With refusals 1 and 9 to 13 the state, too, is byte for byte as it was.
  */
 uint8_t board_byte(uint8_t *state, size_t state_len, uint8_t *store, size_t store_len, uint8_t b, uint8_t *reply, size_t reply_len,
                    size_t *size, uint8_t *refusal);
@@ -145,7 +150,7 @@ uint8_t board_step(uint8_t *state, size_t state_len, uint8_t *store, size_t stor
                    size_t *size, uint8_t *refusal);
 
 /*
- * Fills a store with the bytes of an unused board, as a new board gets it: on, Saturday 1 January 2000, no tags.
+ * Fills a store with the bytes of an unused board, as a new board gets it: on, Saturday 1 January 2000, no tags, unused programs.
  *
  * The result is 0; or 11 where store_len is not 128, and nothing is written. This is no way to erase a board in use: a power cut
  * can stop it anywhere, and nothing would show that.

@@ -39,7 +39,7 @@ extern "C" {
 enum station_refusal {
     STATION_REFUSED_SHORT_BUFFER = 10,     /* a lent buffer has less than the least room */
     STATION_REFUSED_MONITOR_ID = 20,       /* encoder: the destination is neither 1 to 8 nor STATION_ALL */
-    STATION_REFUSED_VALUE = 21,            /* encoder: a mode, a date or a tag is outside its range */
+    STATION_REFUSED_VALUE = 21,            /* encoder: a mode, a date, a tag or a number of a schedule is outside its range */
     STATION_REFUSED_REPLY_SHORT = 30,      /* reader: fewer than 13 bytes */
     STATION_REFUSED_REPLY_HEADER = 31,     /* reader: not 01h '0' '0' in front, source not A to H, or type not B, D or F */
     STATION_REFUSED_REPLY_LENGTH = 32,     /* reader: length digits bad, outside 4 to 64, or not this packet's */
@@ -61,7 +61,10 @@ enum station_reply {
     STATION_REPLY_MODEL = 109,
     STATION_REPLY_TAG = 110,
     STATION_REPLY_FORMER_TAG = 111,
-    STATION_REPLY_TAG_WRITE = 112
+    STATION_REPLY_TAG_WRITE = 112,
+    STATION_REPLY_SCHEDULE_READ = 113,
+    STATION_REPLY_SCHEDULE_WRITE = 114,
+    STATION_REPLY_SCHEDULE_ENABLE = 115
 };
 
 /*
@@ -115,6 +118,22 @@ uint8_t station_encode_former_tag_read(uint16_t dest, uint8_t *out, size_t out_l
 /* Changes the tag to the tag_len bytes at `tag`, 0 to 16 of any value; 21 for more. */
 uint8_t station_encode_tag_write(uint16_t dest, const uint8_t *tag, size_t tag_len, uint8_t *out, size_t out_len, size_t *size);
 
+/* Asks for a program of the weekly schedule, 0 to 6; 21 for another. */
+uint8_t station_encode_schedule_read(uint16_t dest, uint8_t program, uint8_t *out, size_t out_len, size_t *size);
+
+/*
+ * Changes a program of the weekly schedule: program 0 to 6; the times to turn on and off each hour 0 to 23 with minute 0 to 59,
+ * or hour 24 with minute 60 for none; input 1, 3, 17, or 0 for none; week 0 to 7Fh, a bit for each day, bit 0 Monday to bit 6
+ * Sunday; flags 0 to 7, bit 0 daily, bit 1 weekly, bit 2 enabled; 21 where one is outside. The two times are judged each by
+ * itself, so that equal ones are sent. The eight reserved numbers of the message are sent as 0.
+ */
+uint8_t station_encode_schedule_write(uint16_t dest, uint8_t program, uint8_t on_hour, uint8_t on_minute, uint8_t off_hour,
+                                      uint8_t off_minute, uint8_t input, uint8_t week, uint8_t flags, uint8_t *out, size_t out_len,
+                                      size_t *size);
+
+/* Enables (1) or disables (0) a program of the weekly schedule, 0 to 6; 21 for another number in either place. */
+uint8_t station_encode_schedule_enable(uint16_t dest, uint8_t program, uint8_t enable, uint8_t *out, size_t out_len, size_t *size);
+
 /*
  * Where a reply ends: how many bytes a packet has whose first bytes these are, 13 to STATION_REPLY_MOST. It is L + 9
  * for the length digits L, first[5] and first[6]; a CR, 03h or 01h before the end is a byte like others, for a check code may be one.
@@ -129,7 +148,7 @@ size_t station_reply_size(const uint8_t *first, size_t first_len);
  *
  *   packet, packet_len      the packet
  *   numbers, numbers_len    the place for the reply's numbers, of at least STATION_NUMBERS_ROOM
- *   bytes, bytes_len        the place for a serial number, a model or a tag, of at least STATION_BYTES_ROOM bytes
+ *   bytes, bytes_len        the place for a serial number, a model, a tag or a program, of at least STATION_BYTES_ROOM
  *   count                   the place for how many bytes that is
  *
  * Checked in this order: 10 where numbers_len is below 9 or bytes_len below 16, then 30, 31, 32, 33, 34, 35. The result is the
@@ -149,12 +168,17 @@ size_t station_reply_size(const uint8_t *first, size_t first_len);
  *   110 tag               none
  *   111 former tag        none
  *   112 tag write         status
+ *   113 schedule read     none: its sixteen numbers are the bytes
+ *   114 schedule write    status: its sixteen numbers are the bytes
+ *   115 schedule enable   status, program, enable
  *
  * A result or status is 0, acknowledged, or 1, refused; an operation type is 0 or 1. Max, value and the mode of 105 may be any
- * number to 65535, page, code and the fields of a date any to 255: the reader does not judge them.
+ * number to 65535, page, code, the fields of a date, program, enable and the numbers of a program any to 255: the reader does not
+ * judge them.
  *
- * The kinds 108 to 112 put their 0 to 16 bytes at the start of `bytes` and how many they are into `count`; the others put 0 there.
- * What `numbers` and `bytes` hold behind that is as it was.
+ * The kinds 108 to 112 put their 0 to 16 bytes, and 113 and 114 the sixteen numbers of a program, at the start of `bytes`, and how
+ * many they are into `count`; the others put 0 there. The sixteen are program, on hour, on minute, off hour, off minute, input,
+ * week, flags and eight reserved ones. What `numbers` and `bytes` hold behind that is as it was.
  *
  * What the check code gives: it is the exclusive or of all bytes after SOH through ETX. A good packet of which exactly one byte is
  * changed, in one bit or more, is always refused: 34, or before that 31 (header), 32 (length digits) or 33 (CR). SOH and CR are not

@@ -11,6 +11,7 @@ use borrow.Author.Tests.{leb-true}
 use Rattle.plan.specs.Stores.{Entry}
 use Rattle.plan.specs.Plans.{storesOf}
 use Rattle.messages.specs.View.{replyOf, replyCount}
+use Rattle.messages.specs.declared.message.ScheduleAnswer.{ScheduleAnswer}
 use Rattle.messages.specs.declared.message.Reply.{Reply}
 use Rattle.store.specs.Fields.{Field, read}
 use Rattle.store.specs.Layout.{tagLength, formerLength}
@@ -46,6 +47,9 @@ no-bytes (Reply.PowerControl o mode) s t e = refl
 no-bytes (Reply.Date a) s t e = refl
 no-bytes (Reply.Item i count) s t e = rw e
 no-bytes (Reply.TagWritten o count) s t e = rw e
+no-bytes (Reply.Schedule ScheduleAnswer.Read) s t e = absurd (omega arith)
+no-bytes (Reply.Schedule (ScheduleAnswer.Written o)) s t e = absurd (omega arith)
+no-bytes (Reply.Schedule (ScheduleAnswer.Enabled o k enable)) s t e = refl
 
 pub decides-reply : (d : Decision) (r : Reply) (es : List Entry) → d .effect ≡ Effect.Replies r → storesOf (d .plan) ≡ es
     → replyCount r ≡ 0 → Decides d (act.replies (replyOf r []) es)

@@ -1,14 +1,17 @@
--- What a good packet does (docs/RULES.md, the section of that name, AC1 to AC10): to a request belong what is stored, in order, and a reply,
--- or the beginning of an erase. Anything that is no request gets NULL.
+-- What a good packet does (docs/RULES.md, the section of that name, AC1 to AC10, and 'Schedules', S1 to S6): to a request belong what is stored, in
+-- order, and a reply, or the beginning of an erase. Anything that is no request gets NULL.
 use mathlib.Core.Bool.{Bool, cond, _&&_}
 use mathlib.Core.List.{List, []}
 use mathlib.Core.Option.{Option, none, some}
 use Prim.Native.Nat.{ℕ}
 use lib.Dec.{eqb}
+use lib.ListN.{getD}
 use Rattle.plan.specs.Stores.{Entry}
-use Rattle.messages.specs.Message.{Request, Reply}
-use Rattle.messages.specs.Message.Request.{getParameter, setParameter, powerRead, powerControl, dateRead, dateWrite, itemRead, tagWrite}
-use Rattle.messages.specs.Message.Reply.{null, getReply, setReply, powerReadReply, powerControlReply, dateReadReply, dateWriteReply, itemReply, tagWriteReply}
+use Rattle.messages.specs.Message.{ScheduleRequest, Request, Reply}
+use Rattle.messages.specs.Message.ScheduleRequest.{scheduleRead, scheduleWrite, scheduleEnable}
+use Rattle.messages.specs.Message.ScheduleReply.{scheduleReadReply, scheduleWriteReply, scheduleEnableReply}
+use Rattle.messages.specs.Message.Request.{getParameter, setParameter, powerRead, powerControl, dateRead, dateWrite, itemRead, tagWrite, schedule}
+use Rattle.messages.specs.Message.Reply.{null, getReply, setReply, powerReadReply, powerControlReply, dateReadReply, dateWriteReply, itemReply, tagWriteReply, scheduleReply}
 use Rattle.messages.specs.declared.message.Date.{Date}
 use Rattle.messages.specs.declared.message.Item.{Item}
 use Rattle.store.specs.Fields.{fieldStores}
@@ -16,6 +19,9 @@ use Rattle.store.specs.Layout.{power}
 use Rattle.store.specs.Settings.{fieldOf, settingAt, accepts, kept, current}
 use Rattle.store.specs.Contents.{isOn, dateOf, isAccepted, dateStores, tagOf, formerTagOf, tagStores}
 use Rattle.store.specs.declared.settings.Row.{Row}
+use Rattle.schedule.specs.Programs.{programStores, enableStores}
+use Rattle.schedule.specs.Numbers as program
+use Rattle.schedule.specs.Numbers.{isListed, isEnable, keptFields, shownProgram}
 use Rattle.calls.specs.Board.{Identity}
 
 -- what a packet brings about: a reply with bytes to store, in order, or the beginning of an erase
@@ -85,6 +91,29 @@ itemOf i m Item.Model = i .model
 itemOf i m Item.Tag = tagOf m
 itemOf i m Item.FormerTag = formerTagOf m
 
+-- ---- schedules, on or in standby
+
+-- a program that there is not gets NULL
+abbrev pub scheduleReadEffect : List ℕ → ℕ → Effect
+scheduleReadEffect m k = says (cond (isListed k) (scheduleReply (scheduleReadReply (shownProgram m k))) null)
+
+unfoldable pub scheduleWriteEffect : List ℕ → List ℕ → Effect
+scheduleWriteEffect m numbers =
+    cond (program.isAccepted numbers)
+    (replies (scheduleReply (scheduleWriteReply 0 numbers)) (programStores m (getD numbers 0 0) (keptFields numbers)))
+    (says (scheduleReply (scheduleWriteReply 1 numbers)))
+
+unfoldable pub scheduleEnableEffect : List ℕ → ℕ → ℕ → Effect
+scheduleEnableEffect m k enable =
+    cond (isListed k && isEnable enable)
+    (replies (scheduleReply (scheduleEnableReply 0 k enable)) (enableStores m k enable))
+    (says (scheduleReply (scheduleEnableReply 1 k enable)))
+
+unfoldable pub scheduleEffect : List ℕ → ScheduleRequest → Effect
+scheduleEffect m (scheduleRead k) = scheduleReadEffect m k
+scheduleEffect m (scheduleWrite numbers) = scheduleWriteEffect m numbers
+scheduleEffect m (scheduleEnable k enable) = scheduleEnableEffect m k enable
+
 -- ---- all requests
 
 unfoldable pub effectOf : Identity → List ℕ → Request → Effect
@@ -96,6 +125,7 @@ effectOf i m dateRead = says (dateReadReply (dateOf m))
 effectOf i m (dateWrite d) = dateWriteEffect m d
 effectOf i m (itemRead x) = says (itemReply x (itemOf i m x))
 effectOf i m (tagWrite tag) = replies (tagWriteReply 0 tag) (tagStores m tag)
+effectOf i m (schedule r) = scheduleEffect m r
 
 abbrev pub effect : Identity → List ℕ → Option Request → Effect
 effect i m (some r) = effectOf i m r

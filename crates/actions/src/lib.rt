@@ -7,9 +7,9 @@ ghost use Prim.Native.Nat.{_≤_};
 ghost use lib.Dec.{eqb};
 ghost use lib.ListN.{take};
 ghost use Rattle.plan.specs.Plans.{storesOf};
-ghost use Rattle.messages.specs.View.{requestOf, replyOf, requestCount, replyCount};
+ghost use Rattle.messages.specs.View.{scheduleRequestOf, requestOf, replyOf, requestCount, replyCount};
 ghost use Rattle.parser.specs.View.{parsed, parsedCount};
-ghost use Rattle.actions.specs.Act.{effectOf, effect, getListed, getEffect, setListed, setEffect, powerReadEffect, powerControlEffect, dateWriteEffect, isErase, itemOf, says, replies, begins};
+ghost use Rattle.actions.specs.Act.{effectOf, effect, getListed, getEffect, setListed, setEffect, powerReadEffect, powerControlEffect, dateWriteEffect, scheduleReadEffect, scheduleWriteEffect, scheduleEnableEffect, scheduleEffect, isErase, itemOf, says, replies, begins};
 ghost use Rattle.store.specs.Settings.{settingAt, Listed};
 ghost use Rattle.store.specs.Contents.{tagStores, itemBytes};
 ghost use Rattle.messages.specs.Message.Reply.{setReply, itemReply, tagWriteReply};
@@ -22,10 +22,14 @@ use messages::message::Parameter;
 use messages::message::PowerMode;
 use messages::message::Reply;
 use messages::message::Request;
+use messages::message::ScheduleAnswer;
+use messages::message::ScheduleRequest;
 use messages::message::Status;
 use parser::parse::Parsed;
 use parser::parse::ParsedRequest;
 use plan::Plan;
+use schedule::numbers;
+use schedule::programs;
 use store::contents;
 use store::contents::ItemBytes;
 use store::settings;
@@ -107,6 +111,9 @@ fn decide_request(
         }
         Request::TagWrite(count) => {
             return tag_write(bytes, count, store);
+        }
+        Request::Schedule(request) => {
+            return schedule(request, bytes, store);
         }
     }
 }
@@ -299,6 +306,81 @@ fn tag_write(bytes: [u8; 16], count: u8, store: &[u8]) -> Decision
         plan,
         bytes,
     }
+}
+
+// A program read, written, or enabled and disabled.
+fn schedule(request: ScheduleRequest, bytes: [u8; 16], store: &[u8]) -> Decision
+    requires { ⌜ StoreInRange (now store) ⌝ }
+    ensures { λ r. ⌜ Decides r (scheduleEffect (now (store .entry)) (scheduleRequestOf request bytes)) ⌝ }
+{
+    match request {
+        ScheduleRequest::Read(program) => {
+            return schedule_read(program, store);
+        }
+        ScheduleRequest::Write => {
+            return schedule_write(bytes, store);
+        }
+        ScheduleRequest::Enable(program, enable) => {
+            return schedule_enable(program, enable, store);
+        }
+    }
+}
+
+// The program's numbers, or NULL where there is no such program.
+fn schedule_read(program: u8, store: &[u8]) -> Decision
+    requires { ⌜ StoreInRange (now store) ⌝ }
+    ensures { λ r. ⌜ Decides r (scheduleReadEffect (now (store .entry)) program) ⌝ }
+{
+    if 6 < program {
+        return unchanged(Reply::Null);
+    }
+    let plan = Plan::empty();
+    Decision {
+        effect: Effect::Replies(Reply::Schedule(ScheduleAnswer::Read)),
+        plan,
+        bytes: numbers::shown_program(store, program as usize),
+    }
+}
+
+// A schedule write; its numbers come back as they were sent.
+fn schedule_write(numbers: [u8; 16], store: &[u8]) -> Decision
+    requires { ⌜ StoreInRange (now store) ⌝ }
+    ensures { λ r. ⌜ Decides r (scheduleWriteEffect (now (store .entry)) (take 16 numbers)) ⌝ }
+{
+    if !numbers::is_accepted(numbers) {
+        let plan = Plan::empty();
+        return Decision {
+            effect: Effect::Replies(Reply::Schedule(ScheduleAnswer::Written(Status::Refused))),
+            plan,
+            bytes: numbers,
+        };
+    }
+    let fields = numbers::kept_fields(numbers);
+    let plan = programs::program_stores(store, numbers[0] as usize, fields);
+    Decision {
+        effect: Effect::Replies(Reply::Schedule(ScheduleAnswer::Written(Status::Acknowledged))),
+        plan,
+        bytes: numbers,
+    }
+}
+
+// A program enabled (1) or disabled (0).
+fn schedule_enable(program: u8, enable: u8, store: &[u8]) -> Decision
+    requires { ⌜ StoreInRange (now store) ⌝ }
+    ensures { λ r. ⌜ Decides r (scheduleEnableEffect (now (store .entry)) program enable) ⌝ }
+{
+    let refused = Reply::Schedule(ScheduleAnswer::Enabled(Status::Refused, program, enable));
+    if 6 < program {
+        return unchanged(refused);
+    }
+    if 1 < enable {
+        return unchanged(refused);
+    }
+    let plan = programs::enable_stores(store, program as usize, enable as u16);
+    changed(
+        Reply::Schedule(ScheduleAnswer::Enabled(Status::Acknowledged, program, enable)),
+        plan,
+    )
 }
 
 fn is_erase(page: u8, code: u8) -> bool

@@ -17,7 +17,8 @@ use Rattle.messages.specs.Message.{Reply}
 use Rattle.messages.specs.Read.{requestIn}
 use Rattle.receiver.specs.Receive as receive
 use Rattle.receiver.proofs.Laws.{accept-proper}
-use Rattle.layouts.specs.Layouts.{inRange, unusedStore}
+use Rattle.layouts.specs.Layouts.{layoutMark, isLayout, fitsLayout, conversion, inRange, unusedStore}
+use Rattle.layouts.proofs.ConversionLaws.{fits-own, conversion-none}
 use Rattle.layouts.proofs.UnusedLaws.{unused-length, unused-in-range}
 use Rattle.calls.specs.Board.{Identity, Answer, waiting, silent, begun, refused, reply, Erase, idle, pending, board}
 use Rattle.calls.specs.Calls.{mark, eraseMark, atRest, erasing, isSoundAs, isSound}
@@ -143,9 +144,22 @@ call-acts (byte b) s m lent r =
     receipt-acts (byte b) s m lent r _ _ e (λ p w. ap (λ (p : List ℕ). eqb (getD p 2 0) (addressOf (s .ident .id))) (sym (whole-is (s .held) b p w)))
 call-acts gap s m lent r = answer-acts gap s m lent r waiting [] nothing-proper (λ e. let z : _≡_ {A = ℕ} 0 1 = cc in omega arith)
 
+own-mark : (m : List ℕ) → mark m ≡ mark unusedStore → getD m 0 0 ≡ layoutMark
+unfolding mark unusedStore
+own-mark m e = e
+
+layout-own : isLayout (mark unusedStore) ≡ true
+unfolding mark unusedStore
+layout-own = refl
+
 rest-starts : (i : Identity) (m : List ℕ) → Startable boardKind i m → startOther i m ≡ board (atRest boardKind i) []
 unfolding startOther atRest
-rest-starts i m a = simp (a .named, a .ranged, eq-eqb _ _ (a .size), eq-eqb _ _ (a .marked))
+rest-starts i m a =
+    let own : getD m 0 0 ≡ layoutMark = own-mark m (a .marked) in
+    let fits : fitsLayout m ≡ true = fits-own m own ∙ a .ranged in
+    let layout : isLayout (mark m) ≡ true = ap isLayout (a .marked) ∙ layout-own in
+    let none : conversion m ≡ [] = conversion-none m (λ q. omega arith) in
+    rw (a .named, fits, layout, none, eq-eqb _ _ (a .size))
 
 other-mark : mark unusedStore ≢ eraseMark
 unfolding mark unusedStore

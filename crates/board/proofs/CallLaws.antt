@@ -17,10 +17,12 @@ use Rattle.wire.specs.Packet.{soh, size, packetText, leastBuffer}
 use Rattle.wire.specs.Inner.{Whole}
 use Rattle.wire.specs.Judge as judge
 use Rattle.wire.proofs.Tests.{cond-by, both}
-use Rattle.plan.specs.Stores.{entry, applied}
+use Rattle.plan.specs.Stores.{Entry, entry, applied}
 use Rattle.plan.specs.Plans.{storesOf}
 use Rattle.plan.specs.Inner.{Committable}
-use Rattle.layouts.specs.Layouts.{inRange, unusedStore}
+use Rattle.layouts.specs.Layouts.{olderMark, layoutMark, isLayout, fitsLayout, conversion, unusedStore}
+use Rattle.layouts.proofs.ConversionLaws.{conversion-none, conversion-ready}
+use Rattle.plan.specs.Inner.{Committable}
 use Rattle.store.specs.declared.contents.ItemBytes.{ItemBytes}
 use Rattle.receiver.specs.Receive as receive
 use Rattle.receiver.specs.View.{heldOf, receptionIn, receipt, emptied, withByte, receiverAfter, WholeOf}
@@ -268,7 +270,7 @@ module _ (p : Planned) (b : Board) (place : ℕ) (owed : Bool) (lent : List ℕ)
       rw (← at, ← owes, le-leb place 127 h)
       (record { outcome = rw (is .board, is .answer, is .stores, none, add-one); value = is .board ∙ rw add-one })
 
-  pub ends-plans : 127 < place → (lent′ : List ℕ) → (p .board ≡ withErase b Erase.Idle) × (storesOf (p .plan) ≡ entry 0 0 ∷ [])
+  pub ends-plans : 127 < place → (lent′ : List ℕ) → (p .board ≡ withErase b Erase.Idle) × (storesOf (p .plan) ≡ entry 0 layoutMark ∷ [])
       → (answerOf (p .answer) ≡ kind.lastAnswer (stateOf b .ident) owed) × (lent′ ≡ kind.lastBuffer (stateOf b .ident) owed lent)
       → Plans p lent′ (stepLeaves b) (eraseStep boardKind (placeOf (eraseOf (b .erase))) (owedOf false (eraseOf (b .erase))) (stateOf b) lent)
   unfolding eraseStep endStep atRest mark unusedStore clearsAt
@@ -278,27 +280,34 @@ module _ (p : Planned) (b : Board) (place : ℕ) (owed : Bool) (lent : List ℕ)
 
 -- ---- a start
 
--- a board with an identity and nothing held, where a start gives one
-abbrev startedAs : Identity → calls.Started (calls.Erase Bool) → calls.Started BoardState
-startedAs i (calls.board e es) = calls.board (record { ident = i; held = []; erase = e }) es
-startedAs i (calls.startRefused n) = calls.startRefused n
+-- a board with an identity and nothing held, where a start gives one, and what is stored
+abbrev startedAs : Identity → List Entry → calls.Started (calls.Erase Bool) → calls.Started BoardState
+startedAs i stores (calls.board e es) = calls.board (record { ident = i; held = []; erase = e }) stores
+startedAs i stores (calls.startRefused n) = calls.startRefused n
 
-start-told : (i : Identity) (m : List ℕ) → onStart boardKind i m ≡ startedAs i (startState m (isIdentity i))
+-- a store with the mark E7h is not converted
+erasing-kept : (m : List ℕ) → (eqb (length m) 128 && eqb (mark m) eraseMark) ≡ true → conversion m ≡ []
+unfolding mark
+erasing-kept m t =
+    let e = eqb-true (getD m 0 0) eraseMark (both (eqb (length m) 128) (eqb (getD m 0 0) eraseMark) t .1) in conversion-none m (λ q. omega arith)
+
+start-told : (i : Identity) (m : List ℕ) → onStart boardKind i m ≡ startedAs i (conversion m) (startState m (isIdentity i))
 unfolding onStart startOther erasing
-start-told i m = go (eqb (length m) 128 && eqb (mark m) eraseMark) (eqb (length m) 128 && eqb (mark m) (mark unusedStore)) (isIdentity i) (inRange m)
+start-told i m =
+    go (eqb (length m) 128 && eqb (mark m) eraseMark) (eqb (length m) 128 && isLayout (mark m)) (isIdentity i) (fitsLayout m) (conversion m) (erasing-kept m)
   where
-    go : (erase unused named ranged : Bool)
+    go : (erase layout named fits : Bool) (es : List Entry) → (erase ≡ true → es ≡ [])
         → cond erase (cond named (calls.board (record { ident = i; held = []; erase = pending 1 false }) []) (calls.startRefused 12))
-        (cond unused (cond (named && ranged) (calls.board (holding i []) []) (calls.startRefused 12)) (calls.startRefused 11))
-        ≡ startedAs i
+        (cond layout (cond (named && fits) (calls.board (holding i []) es) (calls.startRefused 12)) (calls.startRefused 11))
+        ≡ startedAs i es
         (cond erase (cond named (calls.board (pending 1 false) []) (calls.startRefused 12))
-        (cond unused (cond (named && ranged) (calls.board idle []) (calls.startRefused 12)) (calls.startRefused 11)))
-    go true unused true ranged = refl
-    go true unused false ranged = refl
-    go false true true true = refl
-    go false true true false = refl
-    go false true false ranged = refl
-    go false false named ranged = refl
+        (cond layout (cond (named && fits) (calls.board idle []) (calls.startRefused 12)) (calls.startRefused 11)))
+    go true layout true fits es h = rw (h refl)
+    go true layout false fits es h = refl
+    go false true true true es h = refl
+    go false true true false es h = refl
+    go false true false fits es h = refl
+    go false false named fits es h = refl
 
 abbrev Named : Bool → calls.Started (calls.Erase Bool) → Type 0
 Named n (calls.board e es) = n ≡ true
@@ -307,11 +316,26 @@ Named n (calls.startRefused k) = Unit {0}
 ready-named : (m : List ℕ) (n : Bool) → Named n (startState m n)
 ready-named m true =
     cond-by (Named true) (eqb (length m) 128 && eqb (mark m) eraseMark) _ _ (λ _. refl)
-    (λ _. cond-by (Named true) (eqb (length m) 128 && eqb (mark m) (mark unusedStore)) _ _
-    (λ _. cond-by (Named true) (inRange m) _ _ (λ _. refl) (λ _. tt)) (λ _. tt))
+    (λ _. cond-by (Named true) (eqb (length m) 128 && isLayout (mark m)) _ _
+    (λ _. cond-by (Named true) (fitsLayout m) _ _ (λ _. refl) (λ _. tt)) (λ _. tt))
 ready-named m false =
     cond-by (Named false) (eqb (length m) 128 && eqb (mark m) eraseMark) _ _ (λ _. tt)
-    (λ _. cond-by (Named false) (eqb (length m) 128 && eqb (mark m) (mark unusedStore)) _ _ (λ _. tt) (λ _. tt))
+    (λ _. cond-by (Named false) (eqb (length m) 128 && isLayout (mark m)) _ _ (λ _. tt) (λ _. tt))
+
+abbrev Sizes : List ℕ → calls.Started (calls.Erase Bool) → Type 0
+Sizes m (calls.board e es) = (length m ≡ 128) × (getD m 0 0 ≡ olderMark → fitsLayout m ≡ true)
+Sizes m (calls.startRefused k) = Unit {0}
+
+ready-sized : (m : List ℕ) (n : Bool) → Sizes m (startState m n)
+unfolding mark
+ready-sized m n =
+    cond-by (Sizes m) (eqb (length m) 128 && eqb (getD m 0 0) eraseMark) _ _
+    (λ t. let b = both (eqb (length m) 128) (eqb (getD m 0 0) eraseMark) t in
+    let erasing = eqb-true (getD m 0 0) eraseMark (b .1) in
+    cond-by (Sizes m) n _ _ (λ _. (eqb-true (length m) 128 (b .0), λ q. absurd (omega arith))) (λ _. tt))
+    (λ _. cond-by (Sizes m) (eqb (length m) 128 && isLayout (getD m 0 0)) _ _
+    (λ t. cond-by (Sizes m) (n && fitsLayout m) _ _
+    (λ u. (eqb-true (length m) 128 (both (eqb (length m) 128) _ t .0), λ q. both n (fitsLayout m) u .1)) (λ _. tt)) (λ _. tt))
 
 module _ (id : ℕ) (serial model m : List ℕ) (s : StartState) (n : Bool) (named : n ≡ identityFits id (length serial) (length model))
     (told : startStateAs s ≡ startState m n) where
@@ -328,7 +352,17 @@ module _ (id : ℕ) (serial model m : List ℕ) (s : StartState) (n : Bool) (nam
   pub model-few : (e : Erase) → s ≡ StartState.Ready e → length model ≤ 16
   model-few e q = named-told (givenIdentity id serial model) (start-named e q) .model
 
-  start-is : onStart boardKind (givenIdentity id serial model) m ≡ startedAs (givenIdentity id serial model) (startStateAs s)
+  -- a board is started on 128 bytes alone, which what is stored fits
+  pub sized : (e : Erase) → s ≡ StartState.Ready e → length m ≡ 128
+  sized e q = subst (Sizes m) (sym told ∙ ap startStateAs q) (ready-sized m n) .0
+
+  pub convertible : (e : Erase) → s ≡ StartState.Ready e → getD m 0 0 ≡ olderMark → fitsLayout m ≡ true
+  convertible e q older = subst (Sizes m) (sym told ∙ ap startStateAs q) (ready-sized m n) .1 older
+
+  pub committable : (e : Erase) {es : List Entry} → s ≡ StartState.Ready e → es ≡ conversion m → Committable (length m) es
+  committable e q is = rw (is, sized e q) (conversion-ready m)
+
+  start-is : onStart boardKind (givenIdentity id serial model) m ≡ startedAs (givenIdentity id serial model) (conversion m) (startStateAs s)
   start-is = start-told (givenIdentity id serial model) m ∙ rw (← same-named, told)
 
   pub refused-answer : (x : Refusal) → s ≡ StartState.Refused x
@@ -342,11 +376,12 @@ module _ (id : ℕ) (serial model m : List ℕ) (s : StartState) (n : Bool) (nam
       → Starts r m m′ (onStart boardKind (givenIdentity id serial model) m)
   refused-start r m′ x left value kept q = rw (start-is, q) (record { started = rw left; value = value; store = kept })
 
-  pub ready-start : (r : Started) (m′ : List ℕ) (e : Erase) → r .answer ≡ StartAnswer.Ready → r .board ≡ freshBoard (givenIdentity id serial model) e → m′ ≡ m
-      → s ≡ StartState.Ready e → Starts r m m′ (onStart boardKind (givenIdentity id serial model) m)
-  ready-start r m′ e left value kept q =
+  pub ready-start : (r : Started) (m′ : List ℕ) (e : Erase) {es : List Entry} → r .answer ≡ StartAnswer.Ready
+      → r .board ≡ freshBoard (givenIdentity id serial model) e → m′ ≡ applied es m → es ≡ conversion m → s ≡ StartState.Ready e
+      → Starts r m m′ (onStart boardKind (givenIdentity id serial model) m)
+  ready-start r m′ e left value stored is q =
       rw (start-is, q)
-      (record { started = rw (left, value, fresh-state (givenIdentity id serial model) e); value = rw (erase-back e) value; store = kept })
+      (record { started = rw (left, value, fresh-state (givenIdentity id serial model) e); value = rw (erase-back e) value; store = stored ∙ rw is })
 
 -- ---- a gap
 

@@ -1,6 +1,6 @@
 -- The checks of each call are those that demand 1 writes out in numbers: soundness, the header and the packet, and the first check that fails.
 use mathlib.Core.Path.{_≡_, refl, sym, _∙_}
-use mathlib.Core.Bool.{Bool, true, false, cond, not, _&&_, _||_, and-false}
+use mathlib.Core.Bool.{Bool, true, false, cond, not, _&&_, _||_, and-false, true≢false}
 use mathlib.Core.List.{List, [], _∷_, _++_}
 use mathlib.Core.Logic.{_≢_}
 use mathlib.Core.Option.{Option, none, some}
@@ -8,7 +8,9 @@ use Prim.Native.Nat.{ℕ, _+_, _≤_, _<_}
 use native.Mathlib.Omega.{arith}
 use lib.Dec.{ltb, eqb}
 use lib.ListN.{length, getD, length-append}
-use borrow.Author.Tests.{eqb-true, eqb-false, ltb-true, ltb-false, ne-eqb, le-ltb, lt-ltb, le-leb, lt-leb}
+use borrow.Author.Tests.{eqb-true, eqb-false, ltb-true, ltb-false, eq-eqb, ne-eqb, le-ltb, lt-ltb, le-leb, lt-leb}
+use Rattle.bitfield.specs.Field.{getField}
+use Rattle.plan.specs.Stores.{Entry}
 use Rattle.wire.specs.Digits.{twoAt}
 use Rattle.wire.specs.Packet.{soh, size, checkCode, packetText}
 use Rattle.wire.specs.Judge as judge
@@ -16,7 +18,9 @@ use Rattle.wire.proofs.Tests.{cond-by}
 use Rattle.messages.specs.Read.{requestIn}
 use Rattle.receiver.specs.Receive as receive
 use Rattle.store.specs.Layout.{fieldsInRange}
-use Rattle.layouts.specs.Layouts.{inRange, unusedStore}
+use Rattle.layouts.specs.Layouts.{inRange, fitsLayout, conversion, unusedStore}
+use Rattle.schedule.specs.Programs.{firstInRange, programsInRange, isTime}
+use Rattle.schedule.proofs.TimeLaws.{time-as}
 use Rattle.calls.specs.Board.{Identity, waiting, refused, Erase, idle, pending, isPending, Started, board, startRefused}
 use Rattle.calls.specs.Calls.{mark, firstBytes, erasing, isShort, isSoundAs, isSound, entryCheck, entryCheckOf, refuse, callOn, onCall, stepOn, onStep, onStart, eraseStep, clearStep, endStep}
 use Rattle.calls.proofs.Steps.{step-clears-or-ends}
@@ -37,6 +41,8 @@ use Rattle.board.specs.Demand1.{
   packetChecks,
   ranges,
   allInRange,
+  times,
+  allTimes,
   isKnown,
   isBeginning,
   isSoundBy,
@@ -46,13 +52,49 @@ use Rattle.board.specs.Demand1.{
   stepChecks,
   startChecks,
   startedState,
+  startStores,
 }
 
 -- ---- soundness
 
-in-range : (m : List ℕ) → inRange m ≡ allInRange m ranges
-unfolding inRange fieldsInRange allInRange
-in-range m = refl
+fields-as : (m : List ℕ) → fieldsInRange m ≡ allInRange m ranges
+unfolding fieldsInRange allInRange
+fields-as m = refl
+
+-- seven programs of two times each are fourteen times
+regrouped : (a b c d e f g h i j k l m n : Bool)
+    → (((((((true && (a && b)) && (c && d)) && (e && f)) && (g && h)) && (i && j)) && (k && l)) && (m && n))
+    ≡ (a && (b && (c && (d && (e && (f && (g && (h && (i && (j && (k && (l && (m && (n && true))))))))))))))
+regrouped false b c d e f g h i j k l m n = refl
+regrouped true false c d e f g h i j k l m n = refl
+regrouped true true false d e f g h i j k l m n = refl
+regrouped true true true false e f g h i j k l m n = refl
+regrouped true true true true false f g h i j k l m n = refl
+regrouped true true true true true false g h i j k l m n = refl
+regrouped true true true true true true false h i j k l m n = refl
+regrouped true true true true true true true false i j k l m n = refl
+regrouped true true true true true true true true false j k l m n = refl
+regrouped true true true true true true true true true false k l m n = refl
+regrouped true true true true true true true true true true false l m n = refl
+regrouped true true true true true true true true true true true false m n = refl
+regrouped true true true true true true true true true true true true false n = refl
+regrouped true true true true true true true true true true true true true false = refl
+regrouped true true true true true true true true true true true true true true = refl
+
+-- the time that begins at a bit
+abbrev timeAt : List ℕ → ℕ → Bool
+timeAt m at = isTime (getField m at 5) (getField m (at + 5) 6)
+
+times-as : (m : List ℕ) → programsInRange m ≡ allTimes m times
+unfolding firstInRange allTimes
+times-as m =
+    regrouped (timeAt m 352) (timeAt m 363) (timeAt m 392) (timeAt m 403) (timeAt m 432) (timeAt m 443) (timeAt m 472)
+    (timeAt m 483) (timeAt m 512) (timeAt m 523) (timeAt m 552) (timeAt m 563) (timeAt m 592) (timeAt m 603)
+    ∙ simp time-as
+
+in-range : (m : List ℕ) → inRange m ≡ (allInRange m ranges && allTimes m times)
+unfolding inRange
+in-range m = rw (fields-as m, times-as m)
 
 limits-as : (l : Option ℕ) → judge.inLimits l ≡ isL l
 limits-as (some l) = refl
@@ -74,9 +116,13 @@ beginning-as held =
     let good = header-good (eqb (getD held 1 0) 0x30) (eqb (getD held 3 0) 0x30) (isType (getD held 4 0)) (judge.inLimits (twoAt held 5)) in
     rw (good, limits-as)
 
+grouped : (marked fields programs proper : Bool) → (marked && (fields && programs) && proper) ≡ (marked && fields && programs && proper)
+grouped false fields programs proper = refl
+grouped true fields programs proper = refl
+
 sound-by : (e : Erase Bool) (held m : List ℕ) → isSoundAs boardKind e held m ≡ isSoundBy e held m
 unfolding isSoundAs mark firstBytes unusedStore
-sound-by idle held m = rw (in-range m, beginning-as held)
+sound-by idle held m = rw (in-range m, beginning-as held) (grouped (eqb (getD m 0 0) 0x01) (allInRange m ranges) (allTimes m times) (isBeginning held))
 sound-by (pending p owed) held m = refl
 
 pub sound-as : (s : BoardState) (m : List ℕ) → isSound boardKind s m ≡ isSoundBoard s m
@@ -261,45 +307,69 @@ module _ (s : BoardState) (m lent : List ℕ) where
       go false true idle q = refl
       go false true (pending p owed) q = erase-told _ _
 
+fits-as : (m : List ℕ) → fitsLayout m ≡ cond (eqb (getD m 0 0) 0x00) (allInRange m ranges) (allInRange m ranges && allTimes m times)
+unfolding fitsLayout
+fits-as m = rw (in-range m, fields-as m)
+
 pub start-checked : (i : Identity) (m : List ℕ) → startRefusalIn (onStart boardKind i m) ≡ firstFailed (startChecks i m)
-unfolding onStart startOther startChecks firstFailed mark unusedStore isIdentity
-start-checked i m = rw (← in-range m) (go _ _ (eqb (length m) 128) (eqb (getD m 0 0) 0xE7) (eqb (getD m 0 0) 0x00) (isKnown i) (inRange m))
+unfolding onStart startOther startChecks firstFailed mark isIdentity
+start-checked i m =
+    rw (fits-as m)
+    (go _ _ _ (eqb (length m) 128) (eqb (getD m 0 0) 0xE7) (eqb (getD m 0 0) 0x00) (eqb (getD m 0 0) 0x01) (isKnown i) (allInRange m ranges) (allTimes m times))
   where
-    go : (s t : BoardState) (sized erases rests known ranged : Bool)
+    go : (s t : BoardState) (es : List Entry) (sized erases older current known fields programs : Bool)
         → startRefusalIn
         (cond (sized && erases) (cond known (board s []) (startRefused 12))
-        (cond (sized && rests) (cond (known && ranged) (board t []) (startRefused 12)) (startRefused 11)))
-        ≡ firstFailed ((not (sized && (rests || erases)), 11) ∷ (not (known && (erases || ranged)), 12) ∷ [])
-    go s t false erases rests known ranged = refl
-    go s t true true true true ranged = refl
-    go s t true true true false ranged = refl
-    go s t true true false true ranged = refl
-    go s t true true false false ranged = refl
-    go s t true false true true true = refl
-    go s t true false true true false = refl
-    go s t true false true false ranged = refl
-    go s t true false false known ranged = refl
+        (cond (sized && (older || current)) (cond (known && cond older fields (fields && programs)) (board t es) (startRefused 12)) (startRefused 11)))
+        ≡ firstFailed ((not (sized && (older || (current || erases))), 11) ∷ (not (known && (erases || (fields && (older || programs)))), 12) ∷ [])
+    go s t es false erases older current known fields programs = refl
+    go s t es true true true current true fields programs = refl
+    go s t es true true true current false fields programs = refl
+    go s t es true true false true true fields programs = refl
+    go s t es true true false true false fields programs = refl
+    go s t es true true false false true fields programs = refl
+    go s t es true true false false false fields programs = refl
+    go s t es true false true current true true programs = refl
+    go s t es true false true current true false programs = refl
+    go s t es true false true current false fields programs = refl
+    go s t es true false false true true true true = refl
+    go s t es true false false true true true false = refl
+    go s t es true false false true true false programs = refl
+    go s t es true false false true false fields programs = refl
+    go s t es true false false false known fields programs = refl
 
-pub start-given : (i : Identity) (m : List ℕ) → firstFailed (startChecks i m) ≡ none → onStart boardKind i m ≡ board (startedState i m) []
-unfolding onStart startOther startChecks firstFailed mark unusedStore isIdentity erasing
-start-given i m = rw (← in-range m) (go (eqb (length m) 128) (eqb (getD m 0 0) 0xE7) (eqb (getD m 0 0) 0x00) (isKnown i) (inRange m))
+-- a store has one mark
+one-mark : (m : List ℕ) → eqb (getD m 0 0) 0xE7 ≡ true → eqb (getD m 0 0) 0x00 ≡ false
+one-mark m e = let is = eqb-true (getD m 0 0) 0xE7 e in ne-eqb (getD m 0 0) 0x00 (λ q. omega arith)
+
+pub start-given : (i : Identity) (m : List ℕ) → firstFailed (startChecks i m) ≡ none → onStart boardKind i m ≡ board (startedState i m) (startStores m)
+unfolding onStart startOther startChecks firstFailed mark isIdentity erasing conversion
+start-given i m =
+    rw (fits-as m)
+    (go _ (eqb (length m) 128) (eqb (getD m 0 0) 0xE7) (eqb (getD m 0 0) 0x00) (eqb (getD m 0 0) 0x01) (isKnown i) (allInRange m ranges) (allTimes m times) (one-mark m))
   where
-    started : Erase Bool → Started BoardState
-    started e = board (record { ident = i; held = []; erase = e }) []
+    started : Erase Bool → List Entry → Started BoardState
+    started e es = board (record { ident = i; held = []; erase = e }) es
 
-    go : (sized erases rests known ranged : Bool) → firstFailed ((not (sized && (rests || erases)), 11) ∷ (not (known && (erases || ranged)), 12) ∷ []) ≡ none
-        → cond (sized && erases) (cond known (started (pending 1 false)) (startRefused 12))
-        (cond (sized && rests) (cond (known && ranged) (started idle) (startRefused 12)) (startRefused 11))
-        ≡ started (cond erases (pending 1 false) idle)
-    go false erases rests known ranged h = cc
-    go true true true true ranged h = refl
-    go true true true false ranged h = cc
-    go true true false true ranged h = refl
-    go true true false false ranged h = cc
-    go true false true true true h = refl
-    go true false true true false h = cc
-    go true false true false ranged h = cc
-    go true false false known ranged h = cc
+    go : (es : List Entry) (sized erases older current known fields programs : Bool) → (erases ≡ true → older ≡ false)
+        → firstFailed ((not (sized && (older || (current || erases))), 11) ∷ (not (known && (erases || (fields && (older || programs)))), 12) ∷ []) ≡ none
+        → cond (sized && erases) (cond known (started (pending 1 false) []) (startRefused 12))
+        (cond (sized && (older || current)) (cond (known && cond older fields (fields && programs)) (started idle (cond older es [])) (startRefused 12)) (startRefused 11))
+        ≡ started (cond erases (pending 1 false) idle) (cond older es [])
+    go es false erases older current known fields programs one h = cc
+    go es true true true current known fields programs one h = absurd (true≢false (one refl))
+    go es true true false true true fields programs one h = refl
+    go es true true false true false fields programs one h = cc
+    go es true true false false true fields programs one h = refl
+    go es true true false false false fields programs one h = cc
+    go es true false true current true true programs one h = refl
+    go es true false true current true false programs one h = cc
+    go es true false true current false fields programs one h = cc
+    go es true false false true true true true one h = refl
+    go es true false false true true true false one h = cc
+    go es true false false true true false programs one h = cc
+    go es true false false true false fields programs one h = cc
+    go es true false false false known fields programs one h = cc
 
 -- ---- what is held after a byte
 

@@ -3,12 +3,12 @@
 use Prim.Native.Nat.{ℕ, _≤_}
 use mathlib.Core.Bool.{Bool, true, false, cond, _&&_, and-false}
 use mathlib.Core.List.{List}
-use mathlib.Core.Logic.{_⊎_, inl, inr}
+use mathlib.Core.Logic.{_⊎_, inl, inr, ⊎-elim, _≢_}
 use mathlib.Core.Path.{_≡_, refl}
 use native.Mathlib.Omega.{arith}
 use borrow.Author.Tests.{eq-eqb, ne-eqb, eqb-true, lt-leb}
 use lib.Dec.{eqb}
-use lib.ListN.{length}
+use lib.ListN.{length, getD}
 use Rattle.plan.specs.Stores.{applied}
 use Rattle.calls.specs.Board.{Identity, Started, board, startRefused}
 use Rattle.calls.proofs.FirstBytes.{clear-first}
@@ -17,7 +17,8 @@ use Rattle.calls.proofs.Steps.{refusal-changes-nothing}
 use Rattle.calls.proofs.Kept.{rest-sound}
 use Rattle.wire.proofs.Tests.{cond-by, both}
 use Rattle.calls.specs.Calls.{mark, isShort, refuse, atRest, isSound, onCall, onStep, onStart}
-use Rattle.layouts.specs.Layouts.{inRange, unusedStore}
+use Rattle.layouts.specs.Layouts.{layoutMark, isLayout, fitsLayout, conversion, unusedStore}
+use Rattle.layouts.proofs.ConversionLaws.{Current, layout-mark, converted-current}
 use Rattle.packets.specs.Packets.{BoardState, isIdentity}
 use Rattle.board.specs.BoardKind.{Call, lends, startOther, boardKind}
 use Rattle.board.proofs.BoardLaws.{board-laws}
@@ -58,12 +59,13 @@ unnamed-step-refused s m lent e = go (isShort lent) refl
     go true f = refusal-changes-nothing boardKind .short-step s m lent f
     go false f = refusal-changes-nothing boardKind .unsound-step s m lent f (unnamed-unsound s m e)
 
-pub unnamed-start-refused : (i : Identity) (m : List ℕ) → length m ≡ 128 → (mark m ≡ 0) ⊎ (mark m ≡ 0xE7) → isIdentity i ≡ false
+not-erasing : (k : ℕ) → isLayout k ≡ true → k ≢ 0xE7
+not-erasing k h e = ⊎-elim (λ q. omega arith) (λ q. omega arith) (layout-mark k h)
+
+pub unnamed-start-refused : (i : Identity) (m : List ℕ) → length m ≡ 128 → (isLayout (mark m) ≡ true) ⊎ (mark m ≡ 0xE7) → isIdentity i ≡ false
     → onStart boardKind i m ≡ startRefused 12
-unfolding onStart startOther mark unusedStore
-unnamed-start-refused i m size (inl k) e =
-    let z : eqb (mark m) 0xE7 ≡ false = ne-eqb (mark m) 0xE7 (λ q. omega arith) in
-    rw (eq-eqb (length m) 128 size, z, eq-eqb (mark m) 0 k, e)
+unfolding onStart startOther
+unnamed-start-refused i m size (inl k) e = rw (eq-eqb (length m) 128 size, ne-eqb (mark m) 0xE7 (not-erasing (mark m) k), k, e)
 unnamed-start-refused i m size (inr k) e = rw (eq-eqb (length m) 128 size, eq-eqb (mark m) 0xE7 k, e)
 
 -- ---- what a start gives is sound
@@ -71,6 +73,14 @@ unnamed-start-refused i m size (inr k) e = rw (eq-eqb (length m) 128 size, eq-eq
 abbrev pub SoundlyStarted : List ℕ → Started BoardState → Type 0
 SoundlyStarted m (board s es) = isSound boardKind s (applied es m) ≡ true
 SoundlyStarted m (startRefused n) = Unit {0}
+
+unused-marked : (m : List ℕ) → getD m 0 0 ≡ layoutMark → mark m ≡ mark unusedStore
+unfolding mark unusedStore
+unused-marked m e = e
+
+converted : (m : List ℕ) → length m ≡ 128 → isLayout (mark m) ≡ true → fitsLayout m ≡ true → Current (applied (conversion m) m)
+unfolding mark
+converted m size is fits = converted-current m size is fits
 
 pub started-sound : (i : Identity) (m : List ℕ) → SoundlyStarted m (onStart boardKind i m)
 unfolding onStart startOther atRest
@@ -81,10 +91,10 @@ started-sound i m =
     (λ n. pending-sound board-laws false
     (record { named = n; below = omega arith; size = eqb-true (length m) 128 (b .0); marked = eqb-true (mark m) 0xE7 (b .1); cleared = clear-first m unusedStore }))
     (λ _. tt))
-    (λ _. cond-by (SoundlyStarted m) (eqb (length m) 128 && eqb (mark m) (mark unusedStore)) _ _
-    (λ t. let b = both (eqb (length m) 128) (eqb (mark m) (mark unusedStore)) t in
-    cond-by (SoundlyStarted m) (isIdentity i && inRange m) _ _
-    (λ u. let c = both (isIdentity i) (inRange m) u in
-    rest-sound board-laws
-    (record { named = c .0; size = eqb-true (length m) 128 (b .0); marked = eqb-true (mark m) (mark unusedStore) (b .1); ranged = c .1 }))
+    (λ _. cond-by (SoundlyStarted m) (eqb (length m) 128 && isLayout (mark m)) _ _
+    (λ t. let b = both (eqb (length m) 128) (isLayout (mark m)) t in
+    cond-by (SoundlyStarted m) (isIdentity i && fitsLayout m) _ _
+    (λ u. let c = both (isIdentity i) (fitsLayout m) u in
+    let now = converted m (eqb-true (length m) 128 (b .0)) (b .1) (c .1) in
+    rest-sound board-laws (record { named = c .0; size = now .size; marked = unused-marked (applied (conversion m) m) (now .marked); ranged = now .ranged }))
     (λ _. tt)) (λ _. tt))

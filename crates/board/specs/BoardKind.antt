@@ -1,4 +1,4 @@
--- The board as one kind (docs/RULES.md, 'Receiver', 'Store' and 'Erase and start'): one receiver, IDs 1 to 8, the layout of `store`.
+-- The board as one kind (docs/RULES.md, 'Receiver', 'Store' and 'Erase and start'): one receiver, IDs 1 to 8, the store of `layouts`.
 use mathlib.Core.Bool.{Bool, true, false, cond, _&&_}
 use mathlib.Core.List.{List, [], _∷_, _++_}
 use Prim.Native.Nat.{ℕ}
@@ -7,7 +7,7 @@ use lib.ListN.{length, getD}
 use Rattle.wire.specs.Packet.{addressOf, over}
 use Rattle.messages.specs.Message.Reply.{setReply}
 use Rattle.receiver.specs.Receive as receive
-use Rattle.layouts.specs.Layouts.{inRange, unusedStore}
+use Rattle.layouts.specs.Layouts.{inRange, isLayout, fitsLayout, conversion, unusedStore}
 use Rattle.calls.specs.Board.{Identity, Answer, waiting, ended, refused, reply, Started, board, startRefused}
 use Rattle.calls.specs.Kind.{Kind}
 use Rattle.calls.specs.Calls.{mark}
@@ -56,11 +56,11 @@ abbrev pub lastBuffer : Identity → Bool → List ℕ → List ℕ
 lastBuffer i true lent = over (eraseReply i) lent
 lastBuffer i false lent = lent
 
--- refusal 11, then 12
+-- refusal 11, then 12; an older store is converted
 unfoldable pub startOther : Identity → List ℕ → Started BoardState
 startOther i m =
-    cond (eqb (length m) 128 && eqb (mark m) (mark unusedStore))
-    (cond (isIdentity i && inRange m) (board (holding i []) []) (startRefused 12))
+    cond (eqb (length m) 128 && isLayout (mark m))
+    (cond (isIdentity i && fitsLayout m) (board (holding i []) (conversion m)) (startRefused 12))
     (startRefused 11)
 
 abbrev pub boardKind : Kind

@@ -15,8 +15,8 @@ use Rattle.bitfield.specs.Field.{getField}
 use Rattle.wire.specs.Digits.{twoAt}
 use Rattle.wire.specs.Packet.{xorOf, size}
 use Rattle.wire.specs.Checks.{Check, firstFailed}
-use Rattle.plan.specs.Stores.{Entry, applied}
-use Rattle.calls.specs.Board.{Identity, Answer, waiting, silent, begun, more, ended, refused, reply, Erase, idle, pending, isPending, Started, board, startRefused, after}
+use Rattle.plan.specs.Stores.{Entry, entry, applied, rangeOf}
+use Rattle.calls.specs.Board.{Identity, Answer, waiting, silent, begun, more, ended, refused, reply, Erase, idle, pending, isPending, board, startRefused, after}
 use Rattle.calls.specs.Calls.{same, onCall, onStep, onStart}
 use Rattle.packets.specs.Packets.{BoardState, BoardOutcome}
 use Rattle.board.specs.BoardKind.{Call, byte, gap, boardKind}
@@ -81,6 +81,18 @@ unfoldable pub allInRange : List ℕ → List (ℕ × ℕ × ℕ × ℕ) → Boo
 allInRange m [] = true
 allInRange m ((at, width, least, most) ∷ fs) = leb least (getField m at width) && leb (getField m at width) most && allInRange m fs
 
+-- where each program's ON and OFF time begins: five bits of an hour, then six of a minute
+abbrev pub times : List ℕ
+times = 352 ∷ 363 ∷ 392 ∷ 403 ∷ 432 ∷ 443 ∷ 472 ∷ 483 ∷ 512 ∷ 523 ∷ 552 ∷ 563 ∷ 592 ∷ 603 ∷ []
+
+-- hours to 24 and minutes to 60, where 24 and 60 come together
+abbrev pub isOnOff : ℕ → ℕ → Bool
+isOnOff hour minute = leb hour 24 && leb minute 60 && cond (eqb hour 24) (eqb minute 60) (not (eqb minute 60))
+
+unfoldable pub allTimes : List ℕ → List ℕ → Bool
+allTimes m [] = true
+allTimes m (at ∷ ats) = isOnOff (getField m at 5) (getField m (at + 5) 6) && allTimes m ats
+
 -- ID 1 to 8, serial number and model of at most 16 bytes
 abbrev pub isKnown : Identity → Bool
 isKnown i = leb 1 (i .id) && leb (i .id) 8 && leb (length (i .serial)) 16 && leb (length (i .model)) 16
@@ -94,7 +106,7 @@ isBeginning held =
     || (eqb (getD held 1 0) 0x30 && eqb (getD held 3 0) 0x30 && isType (getD held 4 0) && isL (twoAt held 5) && ltb (length held) (size held))))
 
 abbrev pub isSoundBy : Erase Bool → List ℕ → List ℕ → Bool
-isSoundBy idle held m = eqb (getD m 0 0) 0x00 && allInRange m ranges && isBeginning held
+isSoundBy idle held m = eqb (getD m 0 0) 0x01 && allInRange m ranges && allTimes m times && isBeginning held
 isSoundBy (pending p owed) held m =
     eqb (getD m 0 0) 0xE7 && eqb (length held) 0 && leb 1 p && leb p 128 && same (drop 1 (take p m)) (drop 1 (take p unusedBytes))
 
@@ -117,11 +129,11 @@ gapChecks s m = (not (isSoundBoard s m), 12) ∷ (isPending (s .erase), 9) ∷ [
 unfoldable pub stepChecks : BoardState → (m lent : List ℕ) → List Check
 stepChecks s m lent = (ltb (length lent) 64, 10) ∷ (not (isSoundBoard s m), 12) ∷ (not (isPending (s .erase)), 13) ∷ []
 
--- 128 bytes with mark 00h or E7h; then the identity, and with 00h the fields
+-- 128 bytes with mark 00h, 01h or E7h; then the identity, with 00h and 01h the fields, and with 01h the programs
 unfoldable pub startChecks : Identity → List ℕ → List Check
 startChecks i m =
-    (not (eqb (length m) 128 && (eqb (getD m 0 0) 0x00 || eqb (getD m 0 0) 0xE7)), 11)
-    ∷ (not (isKnown i && (eqb (getD m 0 0) 0xE7 || allInRange m ranges)), 12)
+    (not (eqb (length m) 128 && (eqb (getD m 0 0) 0x00 || (eqb (getD m 0 0) 0x01 || eqb (getD m 0 0) 0xE7))), 11)
+    ∷ (not (isKnown i && (eqb (getD m 0 0) 0xE7 || (allInRange m ranges && (eqb (getD m 0 0) 0x00 || allTimes m times)))), 12)
     ∷ []
 
 -- ---- what a call leaves
@@ -146,6 +158,10 @@ pub record Holds (s : BoardState) (bytes lent : List ℕ) (o : BoardOutcome) : T
 -- what a start gives: nothing held; with mark E7h an erase pending at place 1, its reply not owed
 abbrev pub startedState : Identity → List ℕ → BoardState
 startedState i m = record { ident = i; held = []; erase = cond (eqb (getD m 0 0) 0xE7) (pending 1 false) idle }
+
+-- what a start on mark 00h stores: the unused programs, bytes 44 to 78 in their order, and then 01h in byte 0
+abbrev pub startStores : List ℕ → List Entry
+startStores m = cond (eqb (getD m 0 0) 0x00) (rangeOf 44 (take 35 (drop 44 unusedBytes)) ++ (entry 0 0x01 ∷ [])) []
 
 -- the value that a refused start gives has ID 0: each call on it is refused, a byte or a step with 10 for a short buffer and else with 12
 abbrev pub noBoardState : BoardState
@@ -182,8 +198,8 @@ pub record Demand1 : Type 0 where
   -- after a byte that completes a packet and is not refused nothing is held
   pub packet-empties : (b : ℕ) (s : BoardState) (m lent : List ℕ) → firstFailed (byteChecks b s m lent) ≡ none → isWhole (s .held ++ (b ∷ [])) ≡ true
       → onCall boardKind (byte b) s m lent .state .held ≡ []
-  -- a start that is not refused gives a board of its identity and stores nothing; a refused one gives no board
-  pub start-given : (i : Identity) (m : List ℕ) → firstFailed (startChecks i m) ≡ none → onStart boardKind i m ≡ board (startedState i m) []
+  -- a start that is not refused gives a board of its identity and stores what is said; a refused one gives no board
+  pub start-given : (i : Identity) (m : List ℕ) → firstFailed (startChecks i m) ≡ none → onStart boardKind i m ≡ board (startedState i m) (startStores m)
   pub no-board : (n : ℕ) → stateOf (startLeaves (startRefused n)) ≡ noBoardState
   pub no-board-call : (c : Call) (m lent : List ℕ) → (onCall boardKind c noBoardState m lent .answer ≡ refused (noBoardRefusal c lent))
       × Unchanged noBoardState lent (onCall boardKind c noBoardState m lent)

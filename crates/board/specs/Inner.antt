@@ -12,7 +12,7 @@ use Rattle.plan.specs.Stores.{Entry}
 use Rattle.plan.specs.Plans.{storesOf}
 use Rattle.receiver.specs.View.{heldOf}
 use Rattle.receiver.specs.Inner.{asked}
-use Rattle.layouts.specs.Layouts.{inRange, unusedStore}
+use Rattle.layouts.specs.Layouts.{inRange, isLayout, fitsLayout, unusedStore}
 use Rattle.calls.specs.Board as calls
 use Rattle.calls.specs.Board.{Started, board, startRefused}
 use Rattle.calls.specs.Calls.{mark, eraseMark, firstBytes, same, isSound}
@@ -52,11 +52,11 @@ soundFits id serial model len wanted e m = identityFits id serial model && (eqb 
 
 -- ---- a start
 
--- the refusal, or the erase that the board begins with, where the identity is in range or not
+-- the refusal, or the erase that the board begins with, where the identity is in range or not; what is stored is not told
 abbrev pub startState : List ℕ → Bool → Started (calls.Erase Bool)
 startState m named =
     cond (eqb (length m) 128 && eqb (mark m) eraseMark) (cond named (board (calls.pending 1 false) []) (startRefused 12))
-    (cond (eqb (length m) 128 && eqb (mark m) (mark unusedStore)) (cond (named && inRange m) (board calls.idle []) (startRefused 12))
+    (cond (eqb (length m) 128 && isLayout (mark m)) (cond (named && fitsLayout m) (board calls.idle []) (startRefused 12))
     (startRefused 11))
 
 abbrev pub startStateAs : StartState → Started (calls.Erase Bool)

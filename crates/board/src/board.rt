@@ -10,7 +10,7 @@ ghost use Rattle.plan.specs.Stores.{entry};
 ghost use Rattle.plan.specs.Plans.{storesOf};
 ghost use Rattle.receiver.specs.View.{heldOf};
 ghost use Rattle.receiver.specs.Inner.{asked};
-ghost use Rattle.layouts.specs.Layouts.{unusedStore};
+ghost use Rattle.layouts.specs.Layouts.{layoutMark, unusedStore};
 ghost use Rattle.store.specs.declared.contents.ItemBytes.{ItemBytes};
 ghost use Rattle.calls.specs.Board.{isPending, placeOf, owedOf};
 ghost use Rattle.calls.specs.Calls.{entryCheckOf, onCall, eraseStep, onStep, onStart};
@@ -153,7 +153,7 @@ pub fn start_answer(store: &[u8], id: u8, serial: &[u8], model: &[u8]) -> StartA
     }
 }
 
-// Starts a board on a store.
+// Starts a board on a store. One of an older layout is converted.
 pub fn start(store: &mut [u8], id: u8, serial: &[u8], model: &[u8]) -> Started
     ensures { λ r. ⌜ Starts r (now (store .entry)) (now (store .exit)) (onStart boardKind (givenIdentity id (now (serial .entry)) (now (model .entry))) (now (store .entry))) ⌝ }
 {
@@ -163,6 +163,8 @@ pub fn start(store: &mut [u8], id: u8, serial: &[u8], model: &[u8]) -> Started
             return refused(refusal);
         }
         StartState::Ready(erase) => {
+            let plan = layouts::converted(store);
+            plan::commit(plan, store);
             return ready(id, serial, model, erase);
         }
     }
@@ -182,13 +184,13 @@ fn start_state(store: &[u8], named: bool) -> StartState
         }
         return StartState::Ready(Erase::Pending(1, false));
     }
-    if mark != layouts::UNUSED_MARK {
+    if !layouts::is_layout(mark) {
         return StartState::Refused(Refusal::NotAStore);
     }
     if !named {
         return StartState::Refused(Refusal::Unsound);
     }
-    if !layouts::in_range(store) {
+    if layouts::due(store) == layouts::OUT_OF_RANGE {
         return StartState::Refused(Refusal::Unsound);
     }
     StartState::Ready(Erase::Idle)
@@ -496,10 +498,10 @@ impl Board {
     // The last step: the unused mark, and its answer.
     fn ends(self, owed: bool, reply: &mut [u8]) -> Planned
         requires { ⌜ (self .id ≤ mostId) × (leastBuffer ≤ length (now reply)) ⌝ }
-        ensures { λ r. ⌜ (r .board ≡ withErase self Erase.Idle) × (storesOf (r .plan) ≡ entry 0 0 ∷ []) ⌝ }
+        ensures { λ r. ⌜ (r .board ≡ withErase self Erase.Idle) × (storesOf (r .plan) ≡ entry 0 layoutMark ∷ []) ⌝ }
         ensures { λ r. ⌜ (answerOf (r .answer) ≡ kind.lastAnswer (stateOf self .ident) owed) × (now (reply .exit) ≡ kind.lastBuffer (stateOf self .ident) owed (now (reply .entry))) ⌝ }
     {
-        let plan = Plan::one(0, layouts::UNUSED_MARK);
+        let plan = Plan::one(0, layouts::LAYOUT_MARK);
         let id = self.id;
         Planned {
             board: self.with_erase(Erase::Idle),

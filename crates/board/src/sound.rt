@@ -54,13 +54,13 @@ fn is_sound_idle(wanted: u8, store: &[u8]) -> bool
     requires { ⌜ length (now store) ≡ 128 ⌝ }
     ensures { λ r. ⌜ r ≡ idleFits wanted (now (store .entry)) ⌝ }
 {
-    if store[0] != layouts::UNUSED_MARK {
+    if store[0] != layouts::LAYOUT_MARK {
         return false;
     }
     if wanted == 0 {
         return false;
     }
-    layouts::in_range(store)
+    layouts::due(store) == 0
 }
 
 fn is_sound_pending(len: u8, place: u8, store: &[u8]) -> bool

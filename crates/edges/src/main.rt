@@ -7,6 +7,8 @@ use board::board::StartAnswer;
 use transcript::feed;
 use wire::digits;
 
+mod schedules;
+
 fn main() {
     settings();
     lengths();
@@ -14,6 +16,8 @@ fn main() {
     check_codes();
     places();
     serials();
+    schedules::all();
+    stores();
 }
 
 // A value at its largest, and one past it.
@@ -91,8 +95,48 @@ fn serials() {
     start_shown(b"SERIAL NUMBER 012");
 }
 
+// Starts on stores of each mark: an older one with something in every byte where programs come, and with a tag length of 17; one with a program's hour
+// of 25; a pending erase; and a mark that there is not.
+fn stores() {
+    let mut older = layouts::unused();
+    let junk = [0xA5u8; 35];
+    digits::put_bytes(&mut older, 44, &junk);
+    older[0] = 0x00;
+    io::write_all(1, b"mark 00, no programs\n");
+    start_on(older);
+    older[10] = 0x08;
+    older[11] = 0x80;
+    io::write_all(1, b"mark 00, tag length 17\n");
+    start_on(older);
+    let mut store = layouts::unused();
+    store[44] = 0xC8;
+    io::write_all(1, b"mark 01, hour 25\n");
+    start_on(store);
+    store[0] = 0xE7;
+    io::write_all(1, b"mark E7, hour 25\n");
+    start_on(store);
+    store[0] = 0x02;
+    io::write_all(1, b"mark 02\n");
+    start_on(store);
+}
+
+// A start on a store: whether it is refused, and the mark and the programs after it.
+fn start_on(before: [u8; 128]) {
+    let mut store = before;
+    let started = board::board::start(&mut store, 1, b"", b"");
+    let answer = started.answer;
+    show_started(answer);
+    io::write_all(1, b"mark ");
+    show_digits(store[0]);
+    io::write_all(1, b", bytes 44 to 78 ");
+    let mut text = [0u8; 70];
+    digits::put_hex(&mut text, 0, &store[44..79]);
+    io::write_all(1, &text);
+    io::write_all(1, b"\n");
+}
+
 // Writes a name, and the answers of an unused board to some bytes.
-fn show(name: &[u8], id: u8, bytes: &[u8]) {
+pub fn show(name: &[u8], id: u8, bytes: &[u8]) {
     io::write_all(1, name);
     let mut store = layouts::unused();
     let mut reply = [0u8; 64];
@@ -187,11 +231,16 @@ fn show_digits(n: u8) {
     io::write_all(1, &text);
 }
 
-// A start on an unused store: whether it is refused, and its number.
+// A start on an unused store.
 fn start_shown(serial: &[u8]) {
     let mut store = layouts::unused();
     let started = board::board::start(&mut store, 1, serial, b"");
     let answer = started.answer;
+    show_started(answer);
+}
+
+// Whether a start is refused, and its number.
+fn show_started(answer: StartAnswer) {
     match answer {
         StartAnswer::Ready => {
             io::write_all(1, b"started\n");

@@ -6,20 +6,20 @@ use mathlib.Core.List.{List, [], _++_}
 use Prim.Native.Nat.{ℕ, zero, suc, _-_, _≤_, _<_}
 use native.Mathlib.Nat.{sub-zero, zero-sub, suc-sub-suc}
 use native.Mathlib.Omega.{arith}
-use lib.Dec.{leb, eqb}
+use lib.Dec.{eqb}
 use lib.ListN.{length, drop, replicate}
-use borrow.Author.Tests.{leb-true, eqb-true, ne-eqb}
+use borrow.Author.Tests.{eqb-true, ne-eqb}
 use Rattle.wire.proofs.Tests.{both}
 use Rattle.messages.specs.Message.{IsItem, IsDate}
 use Rattle.messages.specs.Message.Request.{powerRead, powerControl, dateRead, dateWrite, itemRead, tagWrite}
 use Rattle.messages.specs.Message.Reply.{powerReadReply, powerControlReply, dateReadReply, dateWriteReply, itemReply, tagWriteReply}
 use Rattle.messages.specs.declared.message.Date.{Date}
 use Rattle.messages.specs.declared.message.Item.{Item}
-use Rattle.store.specs.Fields.{read, fieldStores}
+use Rattle.store.specs.Fields.{fieldStores}
 use Rattle.store.specs.Layout.{power, tagLength}
 use Rattle.store.specs.Contents.{isOn, dateOf, isStorable, isAccepted, withDate, dateStores, tagOf, formerTagOf, tagStores}
 use Rattle.wire.specs.Digits.{padded}
-use Rattle.store.proofs.StoreLaws.{in-range-one, field-applied}
+use Rattle.store.proofs.StoreLaws.{field-applied}
 use Rattle.layouts.proofs.RangeLaws.{range-fields}
 use Rattle.store.proofs.SettingLaws.{power-moves}
 use Rattle.store.proofs.DateLaws.{storable-fits, date-keeps-field, date-keeps-byte, accepted-shown, date-applied}
@@ -32,7 +32,7 @@ use Rattle.exchange.specs.Rows.{Idle, Ready, Asks, Shows, Changes, isWit
 use Rattle.exchange.specs.Rows.{dateIn, takesDate, isDateRead, tagIn, formerTagIn, isTagRead, mayChangeTags, TagsMoved}
 use Rattle.exchange.proofs.RowLaws.{rest, shows, ready-sayable, ready-shows}
 use Rattle.exchange.proofs.StoreBytes.{field-bytes, date-bytes, tag-bytes}
-use Rattle.exchange.proofs.KeptLaws.{Elsewhere, Clear, bit-apart, bit-same, elsewhere, field-elsewhere, changes}
+use Rattle.exchange.proofs.KeptLaws.{Elsewhere, Clear, bit-apart, bit-same, elsewhere, field-elsewhere, length-few, changes}
 use Rattle.exchange.proofs.Sets.{before-power}
 
 -- ---- power
@@ -48,7 +48,8 @@ power-clear =
       settings = λ r l _. inr (before-power r l);
       power = λ n. absurd (false≢true (sym n));
       date = λ _. inl (omega arith);
-      tags = λ _ _ _. omega arith;
+      tags = λ _ _ _. inl (omega arith);
+      programs = λ _ _ _. inl (omega arith);
     }
 
 module _ (i : Identity) (m : List ℕ) (ready : Ready i m) where
@@ -109,7 +110,8 @@ date-clear =
       settings = λ r l _. inr (omega (arith, before-power r l));
       power = λ _. inr (omega arith);
       date = λ n. absurd (false≢true (sym n));
-      tags = λ _ _ _. omega arith;
+      tags = λ _ _ _. inl (omega arith);
+      programs = λ _ _ _. inl (omega arith);
     }
 
 module _ (i : Identity) (m : List ℕ) (ready : Ready i m) where
@@ -168,6 +170,7 @@ tag-clear =
       power = λ _. inr (omega arith);
       date = λ _. inr (omega arith);
       tags = λ x t n. absurd (false≢true (sym n ∙ t));
+      programs = λ _ _ _. inl (omega arith);
     }
 
 module _ (i : Identity) (m : List ℕ) (ready : Ready i m) where
@@ -191,20 +194,16 @@ module _ (i : Identity) (m : List ℕ) (ready : Ready i m) where
   unfolding effectOf
   tag-is-item = ready-sayable i m ready (itemRead Item.Tag) {x = itemReply Item.Tag (tagOf m)} tt refl
 
-  tag-few : read m tagLength ≤ 16
-  tag-few =
-      let k = read m tagLength in
-      leb-true k 16 (both (leb 0 k) (leb k 16) (in-range-one m tagLength (range-fields m (rest i m (ready .rests) .ranged)) refl) .1)
-
   pub tag-write : (tag : List ℕ) → IsItem tag → Changes i m (tagWrite tag) (tagWriteReply 0 tag) isTagRead mayChangeTags (TagsMoved i m tag)
   unfolding effectOf tagOf
   tag-write tag h =
       let u = applied (tagStores m tag) m in
       let w = tag-written m tag (rest i m (ready .rests) .size) (h .few) in
+      let few = length-few m tagLength refl refl (range-fields m (rest i m (ready .rests) .ranged)) in
       changes {u = u} ready (tagWrite tag) h refl refl (tag-bytes m tag (ready .in-bytes .store) (h .bytes)) (tag-elsewhere m tag u w) tag-clear
       (λ idle. record {
         tag-shown = item-shows idle Item.Tag (tag-shown m tag u (h .few) w) h;
-        former-shown = item-shows idle Item.FormerTag (former-shown m tag u tag-few w) tag-is-item;
+        former-shown = item-shows idle Item.FormerTag (former-shown m tag u few w) tag-is-item;
         tag-bytes = w .bytes ∙ padded-is tag;
         former-bytes = w .former-bytes;
       })

@@ -3,7 +3,16 @@ use Rattle.exchange.specs.Demand2.{Demand2}
 use Rattle.exchange.proofs.Requests.{requests}
 use Rattle.exchange.proofs.Replies.{replies-read, erase-read}
 use Rattle.exchange.proofs.Rows.{rows}
+use Rattle.exchange.proofs.ScheduleRows.{schedule-rows}
 use Rattle.exchange.proofs.Refusals.{refusal-keeps}
 
 pub demand2 : Demand2
-demand2 = record { requests = requests; replies-read = replies-read; erase-read = erase-read; rows = rows; refusal-keeps = refusal-keeps }
+demand2 =
+    record {
+      requests = requests;
+      replies-read = replies-read;
+      erase-read = erase-read;
+      rows = rows;
+      schedule-rows = schedule-rows;
+      refusal-keeps = refusal-keeps;
+    }

@@ -6,7 +6,7 @@ use mathlib.Core.Option.{bind}
 use Prim.Native.Nat.{ℕ, _+_, _-_, _≤_}
 use native.Mathlib.Omega.{arith}
 use borrow.Author.Tests.{le-ltb}
-use lib.ListN.{length, set}
+use lib.ListN.{length, set, replicate}
 use Rattle.bitfield.specs.Field.{getField, putField, setBit, withBit, bit, bitOf}
 use Rattle.wire.specs.Digits.{valueOf, twoAt, fourAt, octetsIn, unhex, hexOf, padded}
 use Rattle.wire.specs.Packet.{zeroByte, over, xorFrom, packet, packetText, size, typeA, typeC, typeE}
@@ -14,11 +14,12 @@ use Rattle.wire.specs.Judge.{isRequestType}
 use Rattle.wire.proofs.PacketLaws.{packet-length, text-packet}
 use Rattle.messages.specs.Message.{Request, Reply}
 use Rattle.messages.specs.Message.Request.{getParameter, setParameter, powerControl}
-use Rattle.messages.specs.Message.Reply.{null, getReply, setReply, powerReadReply, powerControlReply, dateReadReply, dateWriteReply, itemReply, tagWriteReply}
-use Rattle.messages.specs.Text.{requestType, requestText, replyType, replyText, parameterText, dateText}
+use Rattle.messages.specs.Message.ScheduleReply.{scheduleReadReply, scheduleWriteReply, scheduleEnableReply}
+use Rattle.messages.specs.Message.Reply.{null, getReply, setReply, powerReadReply, powerControlReply, dateReadReply, dateWriteReply, itemReply, tagWriteReply, scheduleReply}
+use Rattle.messages.specs.Text.{requestType, requestText, replyType, replyText, parameterText, dateText, scheduleReplyText}
 use Rattle.messages.specs.declared.message.Date.{Date}
 use Rattle.messages.specs.declared.message.Item.{Item}
-use Rattle.messages.specs.Read.{beginsWith, isName, dateIn, getIn, setIn, powerControlIn, commandIn, requestIn}
+use Rattle.messages.specs.Read.{beginsWith, isName, dateIn, numbersIn, getIn, setIn, powerControlIn, scheduleReadIn, scheduleEnableIn, commandIn, requestIn}
 use Rattle.receiver.specs.Receive.{isProperBeginning}
 use Rattle.plan.specs.Stores.{Entry, entry, applied}
 use Rattle.calls.specs.Calls.{clearsAt, mark, same, firstBytes, isShort, isSoundAs, isSound, atRest, stepOn, onStep, entryCheck, entryCheckOf, endStep, eraseStep}
@@ -29,8 +30,11 @@ use Rattle.store.specs.Fields.{fieldStores}
 use Rattle.store.specs.Layout.{fieldsInRange}
 use Rattle.layouts.specs.Layouts.{inRange, unusedStore}
 use Rattle.store.specs.Settings.{settingAt, current}
+use Rattle.schedule.specs.Programs.{firstInRange, programStores}
+use Rattle.schedule.specs.Numbers as program
+use Rattle.schedule.specs.Numbers.{areZero, keptFields}
 use Rattle.store.specs.Contents.{isOn, dateOf, isAccepted, isStorable, dateStores, withDate, tagOf, formerTagOf, tagStores, withLengths}
-use Rattle.actions.specs.Act.{Effect, replies, begins, powerControlEffect, dateWriteEffect, getEffect, setEffect, powerReadEffect, effectOf, effect}
+use Rattle.actions.specs.Act.{Effect, replies, begins, powerControlEffect, dateWriteEffect, getEffect, setEffect, powerReadEffect, scheduleWriteEffect, scheduleEnableEffect, scheduleEffect, effectOf, effect}
 use Rattle.packets.specs.Packets.{isIdentity, replyWith, replyFrom, addressee, toOwn, toAll, onPacketTo, onPacket, BoardOutcome}
 use Rattle.board.specs.BoardKind.{eraseReply, boardKind}
 use Rattle.board.specs.Demand3.{unusedBytes}
@@ -43,6 +47,8 @@ use Rattle.exchange.specs.Examples.{one, resting, atLastPlace, Seen, Hol
 use Rattle.exchange.specs.Examples.{standbyShown, askDate, dateShown, writeDate, dateWritten, askSerial, serialShown, askModel, modelShown}
 use Rattle.exchange.specs.Examples.{askTag, tagShown, askFormer, formerShown, writeTag, tagWritten, setInput, inputSet, getInput, inputShown}
 use Rattle.exchange.specs.Examples.{setTile, tileRefused, getUnlisted, unlistedShown, tagged, retagged, dated}
+use Rattle.exchange.specs.Examples.{askProgram, programShown, writeProgram, programWritten, disableProgram, programDisabled, enableProgram, programEnabled}
+use Rattle.exchange.specs.Examples.{writeLate, lateRefused, askSeven, enableSeven, sevenRefused, programmed}
 
 -- ---- what the encoder writes
 
@@ -117,7 +123,7 @@ a and b = (a, b)
 
 pub examples-hold : AllHold examples.examples
 unfolding AllHold requestType requestText packet xorFrom packetText size twoAt fourAt valueOf
-    isSound isSoundAs isIdentity mark inRange fieldsInRange unusedStore isProperBeginning getField bit bitOf
+    isSound isSoundAs isIdentity mark inRange fieldsInRange firstInRange unusedStore isProperBeginning getField bit bitOf
     requestIn getIn setIn commandIn beginsWith isName bind effectOf getEffect setEffect powerReadEffect powerControlEffect powerControlIn settingAt current isOn fieldStores putField setBit withBit
     replyWith replyType replyText parameterText
 examples-hold =
@@ -151,15 +157,27 @@ firstDay = record { year = 0; month = 1; day = 1; weekday = 6; hour = 0; minute 
 abbrev lastDay : Date
 lastDay = record { year = 99; month = 12; day = 31; weekday = 4; hour = 23; minute = 59; daylight = 0 }
 
+-- program 0 of an unused board; program 2 from 07:00 to 23:30, and from hour 25
+abbrev notSet : List ℕ
+notSet = 0 ∷ 24 ∷ 60 ∷ 24 ∷ 60 ∷ 0 ∷ 0 ∷ 0 ∷ replicate 8 0
+
+abbrev weekdays : List ℕ
+weekdays = 2 ∷ 7 ∷ 0 ∷ 23 ∷ 30 ∷ 17 ∷ 0x1F ∷ 0x06 ∷ replicate 8 0
+
+abbrev late : List ℕ
+late = 2 ∷ 25 ∷ 0 ∷ 23 ∷ 30 ∷ 17 ∷ 0x1F ∷ 0x06 ∷ replicate 8 0
+
 pub row-examples-hold : AllHold examples.rowExamples
 unfolding AllHold requestType requestText packet xorFrom packetText size twoAt fourAt valueOf
-    isSound isSoundAs isIdentity mark inRange fieldsInRange unusedStore isProperBeginning getField bit bitOf
+    isSound isSoundAs isIdentity mark inRange fieldsInRange firstInRange unusedStore isProperBeginning getField bit bitOf
     requestIn getIn setIn commandIn beginsWith isName bind effectOf getEffect setEffect powerReadEffect powerControlEffect powerControlIn settingAt current isOn fieldStores putField setBit withBit
     replyWith replyType replyText parameterText
     dateOf dateWriteEffect isAccepted isStorable dateStores withDate tagOf formerTagOf tagStores padded withLengths dateIn octetsIn unhex hexOf dateText
+    scheduleReadIn scheduleEnableIn numbersIn scheduleEffect scheduleWriteEffect scheduleEnableEffect program.isAccepted areZero programStores scheduleReplyText
 row-examples-hold =
     let standby = set unusedBytes 6 0x08 in
     let hdmi = set unusedBytes 1 0x8D in
+    let disabled = set programmed 57 0x3E in
     replied standby typeA (packetText status) (powerReadReply 0 4) [] refl status standby refl refl (omega arith) (omega arith) standbyShown refl refl refl
     and replied unusedBytes typeA (packetText askDate) (dateReadReply firstDay) [] refl askDate unusedBytes refl refl (omega arith) (omega arith) dateShown refl refl refl
     and replied unusedBytes typeA (packetText writeDate) (dateWriteReply 0 lastDay) (dateStores unusedBytes lastDay) refl writeDate dated refl refl (omega arith) (omega arith) dateWritten refl refl refl
@@ -172,4 +190,11 @@ row-examples-hold =
     and replied hdmi typeC (packetText getInput) (getReply 0 0x00 0x60 0 17 17) [] refl getInput hdmi refl refl (omega arith) (omega arith) inputShown refl refl refl
     and replied unusedBytes typeE (packetText setTile) (setReply 1 0x10 0x4A 0 2 3) [] refl setTile unusedBytes refl refl (omega arith) (omega arith) tileRefused refl refl refl
     and replied unusedBytes typeC (packetText getUnlisted) (getReply 1 0x00 0x11 0 0 0) [] refl getUnlisted unusedBytes refl refl (omega arith) (omega arith) unlistedShown refl refl refl
+    and replied unusedBytes typeA (packetText askProgram) (scheduleReply (scheduleReadReply notSet)) [] refl askProgram unusedBytes refl refl (omega arith) (omega arith) programShown refl refl refl
+    and replied unusedBytes typeA (packetText writeProgram) (scheduleReply (scheduleWriteReply 0 weekdays)) (programStores unusedBytes 2 (keptFields weekdays)) refl writeProgram programmed refl refl (omega arith) (omega arith) programWritten refl refl refl
+    and replied programmed typeA (packetText disableProgram) (scheduleReply (scheduleEnableReply 0 2 0)) (entry 57 0x3E ∷ []) refl disableProgram disabled refl refl (omega arith) (omega arith) programDisabled refl refl refl
+    and replied disabled typeA (packetText enableProgram) (scheduleReply (scheduleEnableReply 0 2 1)) (entry 57 0x3F ∷ []) refl enableProgram programmed refl refl (omega arith) (omega arith) programEnabled refl refl refl
+    and replied programmed typeA (packetText writeLate) (scheduleReply (scheduleWriteReply 1 late)) [] refl writeLate programmed refl refl (omega arith) (omega arith) lateRefused refl refl refl
+    and replied programmed typeA (packetText askSeven) null [] refl askSeven programmed refl refl (omega arith) (omega arith) p8 refl refl refl
+    and replied programmed typeA (packetText enableSeven) (scheduleReply (scheduleEnableReply 1 7 1)) [] refl enableSeven programmed refl refl (omega arith) (omega arith) sevenRefused refl refl refl
     and tt

@@ -4,31 +4,38 @@ use mathlib.Core.Bool.{Bool, true, false, _&&_, false≢true}
 use mathlib.Core.Logic.{inl, inr, ⊎-elim}
 use mathlib.Core.List.{List, [], _∷_, _++_, append-nil}
 use mathlib.Core.Option.{Option, none, some}
-use Prim.Native.Nat.{ℕ, zero, suc, _+_, _*_, _≤_}
+use Prim.Native.Nat.{ℕ, zero, suc, _+_, _*_, _≤_, _<_}
 use native.Mathlib.Nat.{add-zero}
 use native.Mathlib.Omega.{arith}
 use lib.Dec.{leb, ltb, eqb}
-use lib.ListN.{length, getD, take, drop, length-drop}
-use lib.Seq.{ext-getD, getD-drop}
-use borrow.Author.Tests.{ltb-false, leb-false}
+use lib.ListN.{length, getD, take, drop, length-take, length-drop}
+use lib.Seq.{ext-getD, getD-take, getD-drop}
+use borrow.Author.Tests.{leb-true, ltb-false, leb-false}
 use Rattle.bitfield.specs.Field.{bit, getField, Apart}
 use Rattle.bitfield.proofs.Laws.{get-put-other, byte-put}
 use Rattle.wire.specs.Digits.{Bytes}
 use Rattle.wire.specs.Packet.{addressOf, requestPacket}
+use Rattle.wire.proofs.Tests.{both}
 use Rattle.plan.specs.Stores.{Entry, applied}
 use Rattle.messages.specs.Message.{Request, Reply, IsRequest}
-use Rattle.messages.specs.Message.Request.{getParameter, setParameter, powerRead, powerControl, dateRead, dateWrite, itemRead, tagWrite}
+use Rattle.messages.specs.Message.ScheduleRequest.{scheduleRead, scheduleWrite, scheduleEnable}
+use Rattle.messages.specs.Message.Request.{getParameter, setParameter, powerRead, powerControl, dateRead, dateWrite, itemRead, tagWrite, schedule}
 use Rattle.messages.specs.Text.{requestType, requestText}
 use Rattle.messages.specs.declared.message.Item.{Item}
 use Rattle.messages.proofs.RoundTrips.{request-back, request-type, request-length}
-use Rattle.store.specs.Fields.{Field, write}
+use Rattle.store.specs.Fields.{Field, read, write}
+use Rattle.store.specs.Layout.{fieldsInRange, tagLength, formerLength}
 use Rattle.store.specs.Settings.{Listed, settingAt, current}
 use Rattle.store.specs.Contents.{isOn, dateOf, tagOf, formerTagOf}
 use Rattle.store.specs.declared.settings.Row.{Row}
 use Rattle.store.proofs.SettingLaws.{setting-listed, setting-told}
+use Rattle.store.proofs.StoreLaws.{isField, in-range-one}
+use Rattle.schedule.specs.Numbers.{isListed, numbersOf}
+use Rattle.schedule.proofs.ProgramLaws.{program-agrees}
+use Rattle.layouts.proofs.RangeLaws.{range-fields}
 use Rattle.calls.specs.Board.{Identity, Answer}
 use Rattle.calls.specs.Lists.{seen, run}
-use Rattle.actions.specs.Act.{Effect, replies, getListed, getEffect, powerReadEffect, itemOf, effectOf, effect}
+use Rattle.actions.specs.Act.{Effect, replies, getListed, getEffect, powerReadEffect, itemOf, scheduleReadEffect, scheduleEffect, effectOf, effect}
 use Rattle.packets.specs.Packets.{BoardOutcome, holding, toOwn}
 use Rattle.board.specs.BoardKind.{boardKind}
 use Rattle.board.specs.Demand3.{Trace, Events}
@@ -91,16 +98,33 @@ pub field-elsewhere : (m : List ℕ) (f : Field) (v : ℕ) → Elsewhere (isWith
 field-elsewhere m f v =
     elsewhere (f .at) (f .width) m (write m f v) (get-put-other m (f .at) (f .width) v) (byte-put m (f .at) (f .width) v)
 
--- what is read of a store and may not move lies elsewhere: settings, power, date, and both tags with their lengths
+-- what is read of a store and may not move lies elsewhere: settings, power, date, both tags with their lengths, and programs
 pub record Clear (mayMove : Request → Bool) (at width : ℕ) : Type 0 where
   pub settings : (r : Row) → Listed r → mayMove (getParameter (r .page) (r .code)) ≡ false → Apart at width (r .at) (r .width)
   pub power : mayMove powerRead ≡ false → Apart at width 53 1
   pub date : mayMove dateRead ≡ false → Apart at width 54 30
-  pub tags : (x : Item) → isTag x ≡ true → mayMove (itemRead x) ≡ false → at + width ≤ 84
+  pub tags : (x : Item) → isTag x ≡ true → mayMove (itemRead x) ≡ false → Apart at width 84 268
+  pub programs : (k : ℕ) → k ≤ 6 → mayMove (schedule (scheduleRead k)) ≡ false → Apart at width (352 + 40 * k) 34
 
-drop-same : (k : ℕ) (m u : List ℕ) → length u ≡ length m → ((j : ℕ) → k ≤ j → getD u j 0 ≡ getD m j 0) → drop k u ≡ drop k m
-drop-same k m u l f =
-    ext-getD 0 (drop k u) (drop k m) (simp (length-drop, l)) (λ j _. getD-drop k u j 0 ∙ f (k + j) (omega arith) ∙ sym (getD-drop k m j 0))
+-- what is the same in some bytes is the same part
+part-same : (n k : ℕ) (m u : List ℕ) → length u ≡ length m → ((j : ℕ) → k ≤ j → j < k + n → getD u j 0 ≡ getD m j 0)
+    → take n (drop k u) ≡ take n (drop k m)
+part-same n k m u l f =
+    ext-getD 0 (take n (drop k u)) (take n (drop k m)) (simp (length-take, length-drop, l)) (λ j h. at j (few j h))
+  where
+    few : (j : ℕ) → j < length (take n (drop k u)) → j < n
+    few j h = let g = rw length-take at h in omega arith
+
+    at : (j : ℕ) → j < n → getD (take n (drop k u)) j 0 ≡ getD (take n (drop k m)) j 0
+    at j h =
+        getD-take n (drop k u) j 0 h ∙ getD-drop k u j 0 ∙ f (k + j) (omega arith) (omega arith)
+        ∙ sym (getD-take n (drop k m) j 0 h ∙ getD-drop k m j 0)
+
+-- a tag's length in a store in range
+pub length-few : (m : List ℕ) (f : Field) → isField f ≡ true → f .most ≡ 16 → fieldsInRange m ≡ true → read m f ≤ 16
+length-few m f e most r =
+    let k = read m f in
+    omega (arith, leb-true k (f .most) (both (leb (f .least) k) (leb k (f .most)) (in-range-one m f r e) .1))
 
 module _ {mayChange : ℕ → Bool} {at width : ℕ} {m u : List ℕ} (e : Elsewhere mayChange at width m u) where
   power-same : Apart at width 53 1 → isOn u ≡ isOn m
@@ -122,17 +146,32 @@ module _ {mayChange : ℕ → Bool} {at width : ℕ} {m u : List ℕ} (e : Elsew
         daylight = 0;
       }
 
-  bytes-same : (n k : ℕ) → length u ≡ length m → at + width ≤ 84 → 84 ≤ n → 12 ≤ k
+  -- a tag of at most 16 bytes from byte k on, its length in the field at bit n
+  bytes-same : (n k : ℕ) → length u ≡ length m → Apart at width 84 268 → 84 ≤ n → n ≤ 89 → 12 ≤ k → k ≤ 28 → getField m n 5 ≤ 16
       → take (getField u n 5) (drop k u) ≡ take (getField m n 5) (drop k m)
-  bytes-same n k l a h b =
-      ap₂ (λ (n : ℕ) (s : List ℕ). take n s) (e .fields n 5 (inl (omega arith))) (drop-same k m u l (λ j c. e .bytes j (inl (omega arith))))
+  bytes-same n k l a h h′ b b′ few =
+      ap (λ (n : ℕ). take n (drop k u)) (e .fields n 5 (⊎-elim (λ x. inl (omega arith)) (λ x. inr (omega arith)) a))
+      ∙ part-same (getField m n 5) k m u l (λ j c d. e .bytes j (⊎-elim (λ x. inl (omega arith)) (λ x. inr (omega arith)) a))
 
-  item-same : (i : Identity) (x : Item) → length u ≡ length m → (isTag x ≡ true → at + width ≤ 84) → itemOf i u x ≡ itemOf i m x
+  item-same : (i : Identity) (x : Item) → length u ≡ length m → fieldsInRange m ≡ true → (isTag x ≡ true → Apart at width 84 268)
+      → itemOf i u x ≡ itemOf i m x
   unfolding tagOf formerTagOf
-  item-same i Item.Serial l a = refl
-  item-same i Item.Model l a = refl
-  item-same i Item.Tag l a = bytes-same 84 12 l (a refl) (omega arith) (omega arith)
-  item-same i Item.FormerTag l a = bytes-same 89 28 l (a refl) (omega arith) (omega arith)
+  item-same i Item.Serial l r a = refl
+  item-same i Item.Model l r a = refl
+  item-same i Item.Tag l r a =
+      bytes-same 84 12 l (a refl) (omega arith) (omega arith) (omega arith) (omega arith) (length-few m tagLength refl refl r)
+  item-same i Item.FormerTag l r a =
+      bytes-same 89 28 l (a refl) (omega arith) (omega arith) (omega arith) (omega arith) (length-few m formerLength refl refl r)
+
+  program-same : (k : ℕ) → (k ≤ 6 → Apart at width (352 + 40 * k) 34) → scheduleReadEffect u k ≡ scheduleReadEffect m k
+  program-same k a = go (isListed k) refl
+    where
+      go : (b : Bool) → isListed k ≡ b → scheduleReadEffect u k ≡ scheduleReadEffect m k
+      go true f =
+          let same = program-agrees u m k
+          (λ at′ width′ l h. e .fields at′ width′ (⊎-elim (λ x. inl (omega arith)) (λ x. inr (omega arith)) (a (leb-true k 6 f)))) in
+          rw (f, ap (numbersOf k) same)
+      go false f = rw f
 
   get-same : (page code : ℕ) → ((r : Row) → settingAt page code ≡ some r → Apart at width (r .at) (r .width))
       → getEffect u page code ≡ getEffect m page code
@@ -143,20 +182,23 @@ module _ {mayChange : ℕ → Bool} {at width : ℕ} {m u : List ℕ} (e : Elsew
       listed none f = refl
       listed (some r) f = rw (e .fields (r .at) (r .width) (a r f))
 
-  read-same : {mayMove : Request → Bool} (i : Identity) → length u ≡ length m → Clear mayMove at width
+  read-same : {mayMove : Request → Bool} (i : Identity) → length u ≡ length m → fieldsInRange m ≡ true → Clear mayMove at width
       → (r : Request) → isRead r ≡ true → mayMove r ≡ false → effectOf i u r ≡ effectOf i m r
-  unfolding effectOf powerReadEffect
-  read-same {mayMove} i l c (getParameter page code) t n =
+  unfolding effectOf powerReadEffect scheduleEffect
+  read-same {mayMove} i l f c (getParameter page code) t n =
       get-same page code
-      (λ r f. let at = setting-told page code r f in
-      c .settings r (setting-listed page code r f) (ap₂ (λ (page code : ℕ). mayMove (getParameter page code)) (sym (at .0)) (sym (at .1)) ∙ n))
-  read-same i l c (setParameter page code v) t n = absurd (false≢true t)
-  read-same i l c powerRead t n = rw (power-same (c .power n))
-  read-same i l c (powerControl mode) t n = absurd (false≢true t)
-  read-same i l c dateRead t n = rw (date-same (c .date n))
-  read-same i l c (dateWrite d) t n = absurd (false≢true t)
-  read-same i l c (itemRead x) t n = rw (item-same i x l (λ g. c .tags x g n))
-  read-same i l c (tagWrite tag) t n = absurd (false≢true t)
+      (λ r q. let at = setting-told page code r q in
+      c .settings r (setting-listed page code r q) (ap₂ (λ (page code : ℕ). mayMove (getParameter page code)) (sym (at .0)) (sym (at .1)) ∙ n))
+  read-same i l f c (setParameter page code v) t n = absurd (false≢true t)
+  read-same i l f c powerRead t n = rw (power-same (c .power n))
+  read-same i l f c (powerControl mode) t n = absurd (false≢true t)
+  read-same i l f c dateRead t n = rw (date-same (c .date n))
+  read-same i l f c (dateWrite d) t n = absurd (false≢true t)
+  read-same i l f c (itemRead x) t n = rw (item-same i x l f (λ g. c .tags x g n))
+  read-same i l f c (tagWrite tag) t n = absurd (false≢true t)
+  read-same i l f c (schedule (scheduleRead k)) t n = program-same k (λ h. c .programs k h n)
+  read-same i l f c (schedule (scheduleWrite numbers)) t n = absurd (false≢true t)
+  read-same i l f c (schedule (scheduleEnable k enable)) t n = absurd (false≢true t)
 
 -- ---- a request that stores
 
@@ -168,7 +210,7 @@ kept {i} {m} {u} before after e c =
           let k = length (requestText r) + 10 in
           let l : length u ≡ length m = rest i u after .size ∙ sym (rest i m before .size) in
           heard-effect i r h lent room u after
-          ∙ ap (λ (x : Effect). heardThen lent k (toOwn i x (lent k))) (read-same e i l c r t n)
+          ∙ ap (λ (x : Effect). heardThen lent k (toOwn i x (lent k))) (read-same e i l (range-fields m (rest i m before .ranged)) c r t n)
           ∙ sym (heard-effect i r h lent room m before);
       bits = e .bits;
     }

@@ -9,5 +9,6 @@ pub mod Sets
 pub mod Erase
 pub mod Contents
 pub mod Rows
+pub mod ScheduleRows
 pub mod Demand2
 pub mod Examples

@@ -7,15 +7,19 @@ use Prim.Native.Nat.{ℕ}
 use lib.Dec.{eqb}
 use Rattle.wire.proofs.Tests.{cond-by}
 use Rattle.plan.specs.Stores.{Entry, applied}
-use Rattle.messages.specs.Message.{Request}
-use Rattle.messages.specs.Message.Request.{getParameter, setParameter, powerRead, powerControl, dateRead, dateWrite, itemRead, tagWrite}
+use Rattle.messages.specs.Message.{ScheduleRequest, Request}
+use Rattle.messages.specs.Message.ScheduleRequest.{scheduleRead, scheduleWrite, scheduleEnable}
+use Rattle.messages.specs.Message.Request.{getParameter, setParameter, powerRead, powerControl, dateRead, dateWrite, itemRead, tagWrite, schedule}
 use Rattle.messages.specs.Read.{requestIn}
 use Rattle.store.specs.Settings.{settingAt, accepts}
 use Rattle.store.specs.Contents.{isOn, isAccepted}
 use Rattle.store.specs.declared.settings.Row.{Row}
+use Rattle.schedule.specs.Numbers as program
+use Rattle.schedule.specs.Numbers.{isListed, isEnable}
 use Rattle.calls.specs.Board.{Identity}
 use Rattle.actions.specs.Act.{Effect, replies, begins, effectOf, effect}
 use Rattle.actions.specs.Act.{isErase, getEffect, setListed, setEffect, powerReadEffect, powerControlEffect, dateWriteEffect}
+use Rattle.actions.specs.Act.{scheduleWriteEffect, scheduleEnableEffect, scheduleEffect}
 use Rattle.station.specs.Read as station
 use Rattle.exchange.specs.Rows.{isRefusal, RefusalKeeps}
 use Rattle.exchange.proofs.Replies.{replies-read}
@@ -29,6 +33,13 @@ module _ (i : Identity) (m : List ℕ) where
   listed-bare : (page code v : ℕ) (q : Option Row) → RefusesBare (setListed m page code v q)
   listed-bare page code v none = λ _. refl
   listed-bare page code v (some r) = cond-by RefusesBare (isOn m && accepts (r .values) v) _ _ (λ _ e. absurd (false≢true e)) (λ _ _. refl)
+
+  schedule-bare : (r : ScheduleRequest) → RefusesBare (scheduleEffect m r)
+  unfolding scheduleEffect scheduleWriteEffect scheduleEnableEffect
+  schedule-bare (scheduleRead k) = λ _. refl
+  schedule-bare (scheduleWrite numbers) = cond-by RefusesBare (program.isAccepted numbers) _ _ (λ _ e. absurd (false≢true e)) (λ _ _. refl)
+  schedule-bare (scheduleEnable k enable) =
+      cond-by RefusesBare (isListed k && isEnable enable) _ _ (λ _ e. absurd (false≢true e)) (λ _ _. refl)
 
   request-bare : (r : Request) → RefusesBare (effectOf i m r)
   unfolding effectOf getEffect setEffect powerReadEffect powerControlEffect dateWriteEffect
@@ -44,6 +55,7 @@ module _ (i : Identity) (m : List ℕ) where
   request-bare (dateWrite d) = cond-by RefusesBare (isAccepted d) _ _ (λ _ e. absurd (false≢true e)) (λ _ _. refl)
   request-bare (itemRead x) = λ _. refl
   request-bare (tagWrite tag) = λ e. absurd (false≢true e)
+  request-bare (schedule r) = schedule-bare r
 
   effect-bare : (q : Option Request) → RefusesBare (effect i m q)
   effect-bare none = λ _. refl

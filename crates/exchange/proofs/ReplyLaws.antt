@@ -16,9 +16,10 @@ use Rattle.wire.specs.Packet.{addressOf, zeroByte, packet, replyPacket, over, s
 use Rattle.bitfield.proofs.Laws.{get-lt}
 use Rattle.wire.proofs.Tests.{cond-by}
 use Rattle.wire.proofs.PacketLaws.{over-take, packet-length, size-packet, text-packet, packet-limits, packet-returns, packet-checks, packet-message}
-use Rattle.messages.specs.Message.{Request, Reply, IsRequest, IsReply, isPowerMode}
-use Rattle.messages.specs.Message.Request.{getParameter, setParameter, powerRead, powerControl, dateRead, dateWrite, itemRead, tagWrite}
-use Rattle.messages.specs.Message.Reply.{null, getReply, setReply, powerReadReply, powerControlReply, dateReadReply, dateWriteReply, itemReply, tagWriteReply}
+use Rattle.messages.specs.Message.{ScheduleRequest, Request, Reply, IsNumbers, IsScheduleRequest, IsRequest, IsReply, isPowerMode}
+use Rattle.messages.specs.Message.ScheduleRequest.{scheduleRead, scheduleWrite, scheduleEnable}
+use Rattle.messages.specs.Message.Request.{getParameter, setParameter, powerRead, powerControl, dateRead, dateWrite, itemRead, tagWrite, schedule}
+use Rattle.messages.specs.Message.Reply.{null, getReply, setReply, powerReadReply, powerControlReply, dateReadReply, dateWriteReply, itemReply, tagWriteReply, scheduleReply}
 use Rattle.messages.specs.Text.{replyType, replyText}
 use Rattle.messages.specs.Read.{requestIn}
 use Rattle.messages.specs.declared.message.Item.{Item}
@@ -33,6 +34,9 @@ use Rattle.store.specs.declared.settings.Values.{Values}
 use Rattle.store.specs.declared.settings.Row.{Row}
 use Rattle.store.proofs.SettingLaws.{each-setting, row-in-store, setting-listed}
 use Rattle.store.proofs.FieldLaws.{get-byte}
+use Rattle.schedule.specs.Numbers as program
+use Rattle.schedule.specs.Numbers.{isListed, isEnable, shownProgram}
+use Rattle.schedule.proofs.NumberLaws.{shown-length, shown-bytes}
 use Rattle.calls.specs.Board.{Identity}
 use Rattle.actions.specs.Act.{
   Effect,
@@ -47,6 +51,9 @@ use Rattle.actions.specs.Act.{
   powerControlEffect,
   dateWriteEffect,
   itemOf,
+  scheduleWriteEffect,
+  scheduleEnableEffect,
+  scheduleEffect,
   effectOf,
   effect,
 }
@@ -114,6 +121,17 @@ module _ (m : List ℕ) where
       (λ _. record { result = omega arith; page = p; code = c; operation = omega arith; largest = l; value = w })
       (λ _. record { result = omega arith; page = p; code = c; operation = omega arith; largest = l; value = w })
 
+  pub program-sayable : (k : ℕ) → k < 256 → IsNumbers (shownProgram m k)
+  program-sayable k h = record { sixteen = shown-length m k; bytes = shown-bytes m k h }
+
+  schedule-sayable : (r : ScheduleRequest) → IsScheduleRequest r → Sayable (scheduleEffect m r)
+  unfolding scheduleEffect scheduleWriteEffect scheduleEnableEffect
+  schedule-sayable (scheduleRead k) h = cond-by IsReply (isListed k) _ _ (λ _. program-sayable k h) (λ _. tt)
+  schedule-sayable (scheduleWrite numbers) h =
+      cond-by Sayable (program.isAccepted numbers) _ _ (λ _. (omega arith, h)) (λ _. (omega arith, h))
+  schedule-sayable (scheduleEnable k enable) h =
+      cond-by Sayable (isListed k && isEnable enable) _ _ (λ _. (omega arith, h .0, h .1)) (λ _. (omega arith, h .0, h .1))
+
 module _ (i : Identity) (m : List ℕ) (b : InBytes i m) (n : Named i) (ranged : inRange m ≡ true) where
   item-bytes : (x : Item) → Bytes (itemOf i m x)
   unfolding tagOf formerTagOf
@@ -150,6 +168,7 @@ module _ (i : Identity) (m : List ℕ) (b : InBytes i m) (n : Named i) (ranged :
   request-sayable (dateWrite d) h = cond-by Sayable (isAccepted d) _ _ (λ _. (omega arith, h)) (λ _. (omega arith, h))
   request-sayable (itemRead x) h = record { few = item-few i m n ranged x; bytes = item-bytes x }
   request-sayable (tagWrite tag) h = (omega arith, h)
+  request-sayable (schedule r) h = schedule-sayable m r h
 
   option-sayable : (q : Option Request) → Found IsRequest q → Sayable (effect i m q)
   option-sayable none h = tt
@@ -171,6 +190,7 @@ reply-type (dateReadReply d) = refl
 reply-type (dateWriteReply status d) = refl
 reply-type (itemReply i bytes) = refl
 reply-type (tagWriteReply status tag) = refl
+reply-type (scheduleReply r) = refl
 
 module _ (i : Identity) (n : Named i) (kind : ℕ) (text : List ℕ) where
   abbrev sent : List ℕ

@@ -169,7 +169,8 @@ setting-clear r l =
       settings = λ t k n. ⊎-elim (λ q. absurd (false≢true (sym n ∙ own-get r q))) (λ a. a) (same-or-apart-row r t l k);
       power = λ _. inl b;
       date = λ _. inl (omega arith);
-      tags = λ _ _ _. omega arith;
+      tags = λ _ _ _. inl (omega arith);
+      programs = λ _ _ _. inl (omega arith);
     }
 
 module _ (i : Identity) (m : List ℕ) (ready : Ready i m) where

@@ -3,8 +3,9 @@ use mathlib.Core.Path.{sym, _∙_, subst}
 use mathlib.Core.List.{List, [], _∷_, _++_}
 use Prim.Native.Nat.{ℕ, zero, suc, _+_, _<_}
 use native.Mathlib.Omega.{arith}
-use lib.ListN.{length, set, take, drop, replicate}
+use lib.ListN.{length, getD, set, take, drop, replicate}
 use lib.Seq.{getD-drop}
+use Rattle.bitfield.specs.Field.{putField}
 use Rattle.bitfield.proofs.Laws.{bytes-put}
 use Rattle.wire.specs.Digits.{Bytes, padded}
 use Rattle.messages.specs.declared.message.Date.{Date}
@@ -14,6 +15,7 @@ use Rattle.store.specs.Fields.{Field, read, write}
 use Rattle.store.specs.Layout.{tagLength, formerLength}
 use Rattle.store.specs.Contents.{withLengths, withDate, tagStores}
 use Rattle.store.proofs.DateLaws.{date-by}
+use Rattle.schedule.specs.Programs.{Part, parts, programBit, withFields, withProgram}
 use Rattle.exchange.proofs.ReplyLaws.{bytes-part}
 
 pub field-bytes : (m : List ℕ) (f : Field) (v : ℕ) → Bytes m → Bytes (write m f v)
@@ -21,6 +23,17 @@ field-bytes m f v = bytes-put m (f .at) (f .width) v
 
 pub date-bytes : (m : List ℕ) (d : Date) → Bytes m → Bytes (withDate m d)
 date-bytes m d = date-by Bytes m d (λ u f v _ _. field-bytes u f v)
+
+-- ---- a program, which is written field by field
+
+fields-bytes : (m : List ℕ) (at j : ℕ) (ps : List Part) (fs : List ℕ) → Bytes m → Bytes (withFields m at j ps fs)
+fields-bytes m at j [] fs h = h
+fields-bytes m at j (p ∷ ps) fs h =
+    let u : List ℕ = putField m (at + p .at) (p .width) (getD fs j 0) in
+    fields-bytes u at (suc j) ps fs (bytes-put m (at + p .at) (p .width) (getD fs j 0) h)
+
+pub program-bytes : (m : List ℕ) (k : ℕ) (fs : List ℕ) → Bytes m → Bytes (withProgram m k fs)
+program-bytes m k fs h = fields-bytes m (programBit k) 0 parts fs h
 
 -- ---- a tag
 
@@ -31,7 +44,7 @@ set-bytes (x ∷ s) zero b k h (suc i) = h (suc i)
 set-bytes (x ∷ s) (suc p) b k h zero = h zero
 set-bytes (x ∷ s) (suc p) b k h (suc i) = set-bytes s p b k (λ j. h (suc j)) i
 
-range-bytes : (p : ℕ) (bs s : List ℕ) → Bytes bs → Bytes s → Bytes (applied (rangeOf p bs) s)
+pub range-bytes : (p : ℕ) (bs s : List ℕ) → Bytes bs → Bytes s → Bytes (applied (rangeOf p bs) s)
 range-bytes p [] s k h = h
 range-bytes p (b ∷ bs) s k h = range-bytes (suc p) bs (set s p b) (λ i. k (suc i)) (set-bytes s p b (k zero) h)
 

@@ -1,6 +1,6 @@
--- DEMAND 2 of board and station together (docs/RULES.md, 'Demand 2', RT1 and RT2, and the message table, AC1 to AC11).
+-- DEMAND 2 of board and station together (docs/RULES.md, 'Demand 2', RT1 and RT2, the message table, AC1 to AC11, and 'Schedules', S1 to S6).
 -- A request that the station writes is read by an idle board that it addresses as that request; a reply that a board writes is read by
--- the station with each value intact; and each row of the message table does what Rows.antt says of it.
+-- the station with each value intact; and each row of the message table does what Rows.antt and ScheduleRows.antt say of it.
 use mathlib.Core.List.{List, [], _∷_, _++_}
 use mathlib.Core.Path.{_≡_}
 use Prim.Native.Nat.{ℕ, _-_, _≤_}
@@ -21,6 +21,7 @@ use Rattle.station.specs.Encode.{sends, encoding}
 use Rattle.station.specs.Read as station
 use Rattle.station.specs.declared.encode.Destination.{Destination}
 use Rattle.exchange.specs.Rows.{Idle, InBytes, Ready, Rows, RefusalKeeps}
+use Rattle.exchange.specs.ScheduleRows.{ScheduleRows}
 
 -- ---- a request that is sent
 
@@ -63,7 +64,8 @@ pub record Demand2 : Type 0 where
   -- and on the last step of an erase
   pub erase-read : (s : BoardState) (m lent : List ℕ) (n : ℕ) → onStep boardKind s m lent .answer ≡ reply n
       → IsRead (s .ident .id) n (setReply 0 0xF0 0x01 1 1 1) lent (onStep boardKind s m lent .buffer)
-  -- each row of the message table
+  -- each row of the message table, and those of the schedules
   pub rows : (i : Identity) (m : List ℕ) → Ready i m → Rows i m
+  pub schedule-rows : (i : Identity) (m : List ℕ) → Ready i m → ScheduleRows i m
   -- and what is refused changes no stored byte
   pub refusal-keeps : RefusalKeeps

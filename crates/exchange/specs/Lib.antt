@@ -1,3 +1,4 @@
 pub mod Rows
+pub mod ScheduleRows
 pub mod Demand2
 pub mod Examples

@@ -12,9 +12,11 @@ use Rattle.bitfield.specs.Field.{bit, getField}
 use Rattle.wire.specs.Digits.{Bytes}
 use Rattle.wire.specs.Packet.{requestPacket, over}
 use Rattle.wire.specs.Judge.{isRequestType}
-use Rattle.messages.specs.Message.{Request, Reply, IsRequest, IsItem, IsDate}
-use Rattle.messages.specs.Message.Request.{getParameter, setParameter, powerRead, powerControl, dateRead, dateWrite, itemRead, tagWrite}
-use Rattle.messages.specs.Message.Reply.{null, getReply, setReply, powerReadReply, powerControlReply, dateReadReply, dateWriteReply, itemReply, tagWriteReply}
+use Rattle.messages.specs.Message.{ScheduleRequest, ScheduleReply, Request, Reply, IsRequest, IsItem, IsDate}
+use Rattle.messages.specs.Message.ScheduleRequest.{scheduleRead, scheduleWrite, scheduleEnable}
+use Rattle.messages.specs.Message.ScheduleReply.{scheduleReadReply, scheduleWriteReply, scheduleEnableReply}
+use Rattle.messages.specs.Message.Request.{getParameter, setParameter, powerRead, powerControl, dateRead, dateWrite, itemRead, tagWrite, schedule}
+use Rattle.messages.specs.Message.Reply.{null, getReply, setReply, powerReadReply, powerControlReply, dateReadReply, dateWriteReply, itemReply, tagWriteReply, scheduleReply}
 use Rattle.messages.specs.Text.{requestType, requestText}
 use Rattle.messages.specs.declared.message.Date.{Date}
 use Rattle.messages.specs.declared.message.Item.{Item}
@@ -72,6 +74,11 @@ Shows i m r x = Asks i m r x m
 -- ---- a request that stores
 
 -- the requests that only read
+abbrev pub isScheduleRead : ScheduleRequest → Bool
+isScheduleRead (scheduleRead k) = true
+isScheduleRead (scheduleWrite numbers) = false
+isScheduleRead (scheduleEnable k enable) = false
+
 abbrev pub isRead : Request → Bool
 isRead (getParameter page code) = true
 isRead (setParameter page code v) = false
@@ -81,6 +88,7 @@ isRead dateRead = true
 isRead (dateWrite d) = false
 isRead (itemRead x) = true
 isRead (tagWrite tag) = false
+isRead (schedule r) = isScheduleRead r
 
 -- what is heard of a run: the answers and the lent buffers, and not what is stored
 unfoldable pub heard : Trace → List (Answer ℕ × List ℕ)
@@ -161,6 +169,7 @@ isGetOf page code dateRead = false
 isGetOf page code (dateWrite d) = false
 isGetOf page code (itemRead x) = false
 isGetOf page code (tagWrite tag) = false
+isGetOf page code (schedule r) = false
 
 -- ---- power, date and tags
 
@@ -180,6 +189,7 @@ isPowerRead dateRead = false
 isPowerRead (dateWrite d) = false
 isPowerRead (itemRead x) = false
 isPowerRead (tagWrite tag) = false
+isPowerRead (schedule r) = false
 
 -- the date in a store; DS is 0
 abbrev pub dateIn : List ℕ → Date
@@ -209,6 +219,7 @@ isDateRead dateRead = true
 isDateRead (dateWrite d) = false
 isDateRead (itemRead x) = false
 isDateRead (tagWrite tag) = false
+isDateRead (schedule r) = false
 
 -- the tag and the former tag in a store
 abbrev pub tagIn : List ℕ → List ℕ
@@ -232,6 +243,7 @@ isTagRead dateRead = false
 isTagRead (dateWrite d) = false
 isTagRead (itemRead x) = isTag x
 isTagRead (tagWrite tag) = false
+isTagRead (schedule r) = false
 
 -- lengths in bits 84 to 93, tags in bytes 12 to 43
 abbrev pub mayChangeTags : ℕ → Bool
@@ -261,6 +273,11 @@ abbrev pub IsOther : ℕ → List ℕ → Type 0
 IsOther kind text = (r : Request) → IsRequest r → (requestType r ≡ kind) × (requestText r ≡ text) → ⊥
 
 -- result 01, status 01 or NULL
+abbrev pub isScheduleRefusal : ScheduleReply → Bool
+isScheduleRefusal (scheduleReadReply numbers) = false
+isScheduleRefusal (scheduleWriteReply status numbers) = eqb status 1
+isScheduleRefusal (scheduleEnableReply status k enable) = eqb status 1
+
 abbrev pub isRefusal : Reply → Bool
 isRefusal null = true
 isRefusal (getReply result page code operation largest value) = eqb result 1
@@ -271,6 +288,7 @@ isRefusal (dateReadReply d) = false
 isRefusal (dateWriteReply status d) = eqb status 1
 isRefusal (itemReply x bytes) = false
 isRefusal (tagWriteReply status tag) = eqb status 1
+isRefusal (scheduleReply r) = isScheduleRefusal r
 
 -- ---- the rows
 

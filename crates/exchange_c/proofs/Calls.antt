@@ -6,14 +6,15 @@ use mathlib.Core.Option.{Option, none, some, Option·some-injective}
 use mathlib.Core.Path.{_≡_, refl, sym, ap, _∙_}
 use Prim.Native.Nat.{ℕ, _+_, _-_, _≤_}
 use native.Mathlib.Omega.{arith}
-use borrow.Author.Tests.{leb-true, eqb-true, le-leb, le-ltb, ne-eqb}
+use borrow.Author.Tests.{leb-true, eqb-true, le-leb, lt-ltb, le-ltb, ne-eqb}
 use lib.Dec.{leb, eqb}
 use lib.ListN.{length, getD}
 use Rattle.wire.specs.Packet.{zeroByte, packet, requestPacket, packetText}
 use Rattle.wire.proofs.Tests.{cond-by}
 use Rattle.wire.proofs.PacketLaws.{packet-length, text-packet}
 use Rattle.messages.specs.Message.{Request, IsRequest}
-use Rattle.messages.specs.Message.Request.{getParameter, setParameter, powerRead, powerControl, dateRead, dateWrite, itemRead, tagWrite}
+use Rattle.messages.specs.Message.ScheduleRequest.{scheduleRead, scheduleWrite, scheduleEnable}
+use Rattle.messages.specs.Message.Request.{getParameter, setParameter, powerRead, powerControl, dateRead, dateWrite, itemRead, tagWrite, schedule}
 use Rattle.messages.specs.Text.{requestType, requestText}
 use Rattle.messages.specs.Read.{requestIn}
 use Rattle.messages.specs.declared.message.Item.{Item}
@@ -25,11 +26,13 @@ use Rattle.station_c.proofs.Checks.{taken-as}
 use Rattle.station_c.specs.Checks.{isTaken}
 use Rattle.station_c.specs.Encode.{Call, encodeGet, encodeSet, encodePowerRead, encodePowerControl, encodeDateRead, encodeDateWrite}
 use Rattle.station_c.specs.Encode.{encodeSerialRead, encodeModelRead, encodeTagRead, encodeFormerTagRead, encodeTagWrite}
+use Rattle.station_c.specs.Encode.{encodeScheduleRead, encodeScheduleWrite, encodeScheduleEnable}
 use Rattle.station_c.specs.Encode.{destinationOf, requestFor, encodingFor}
 use Rattle.exchange.specs.Rows.{Ready}
 use Rattle.exchange.proofs.Requests.{sent}
 use Rattle.exchange.proofs.RowLaws.{named}
-use Rattle.exchange_c.specs.Demand2.{IsPassed, IsSent, Encoded}
+use Rattle.exchange_c.specs.Demand2.{IsPassed, IsSent, Encoded, passedProgram}
+use Rattle.exchange_c.proofs.StoredBytes.{tested-bytes}
 
 pub taken-request : (c : Call) → IsPassed c → isTaken c ≡ true → IsRequest (requestFor c)
 taken-request (encodeGet page code) h t = h
@@ -44,6 +47,23 @@ taken-request encodeModelRead h t = tt
 taken-request encodeTagRead h t = tt
 taken-request encodeFormerTagRead h t = tt
 taken-request (encodeTagWrite tag) h t = record { few = leb-true (length tag) 16 t; bytes = h }
+taken-request (encodeScheduleRead k) h t = h
+taken-request (encodeScheduleWrite k on-hour on-minute off-hour off-minute input week flags) h t =
+    record {
+      sixteen = refl;
+      bytes = tested-bytes (passedProgram k on-hour on-minute off-hour off-minute input week flags)
+          (rw (
+            lt-ltb k 256 (h .0),
+            lt-ltb on-hour 256 (h .1),
+            lt-ltb on-minute 256 (h .2),
+            lt-ltb off-hour 256 (h .3),
+            lt-ltb off-minute 256 (h .4),
+            lt-ltb input 256 (h .5),
+            lt-ltb week 256 (h .6),
+            lt-ltb flags 256 (h .7),
+          ));
+    }
+taken-request (encodeScheduleEnable k enable) h t = h
 
 -- ---- a call that is encoded
 
@@ -100,6 +120,10 @@ callFor (itemRead Item.Model) = encodeModelRead
 callFor (itemRead Item.Tag) = encodeTagRead
 callFor (itemRead Item.FormerTag) = encodeFormerTagRead
 callFor (tagWrite tag) = encodeTagWrite tag
+callFor (schedule (scheduleRead k)) = encodeScheduleRead k
+callFor (schedule (scheduleWrite ns)) =
+    encodeScheduleWrite (getD ns 0 0) (getD ns 1 0) (getD ns 2 0) (getD ns 3 0) (getD ns 4 0) (getD ns 5 0) (getD ns 6 0) (getD ns 7 0)
+callFor (schedule (scheduleEnable k enable)) = encodeScheduleEnable k enable
 
 call-back : (c : Call) → callFor (requestFor c) ≡ c
 call-back (encodeGet page code) = refl
@@ -113,6 +137,9 @@ call-back encodeModelRead = refl
 call-back encodeTagRead = refl
 call-back encodeFormerTagRead = refl
 call-back (encodeTagWrite tag) = refl
+call-back (encodeScheduleRead k) = refl
+call-back (encodeScheduleWrite k on-hour on-minute off-hour off-minute input week flags) = refl
+call-back (encodeScheduleEnable k enable) = refl
 
 -- the destination of an address
 abbrev destinationAt : ℕ → ℕ

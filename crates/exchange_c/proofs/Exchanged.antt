@@ -6,8 +6,8 @@ use mathlib.Core.List.{List, [], _∷_, List·Memᴰ, List·Memᴰ·head, List·
 use mathlib.Core.Option.{Option, none, some, Option·some-injective}
 use Prim.Native.Nat.{ℕ, _+_, _<_}
 use native.Mathlib.Omega.{arith}
-use borrow.Author.Tests.{eqb-true, eqb-false, eq-eqb}
-use lib.Dec.{eqb}
+use borrow.Author.Tests.{leb-true, eqb-true, eqb-false, le-leb, eq-eqb}
+use lib.Dec.{leb, eqb}
 use Rattle.bitfield.specs.Field.{getField}
 use Rattle.bitfield.proofs.Laws.{get-lt}
 use Rattle.wire.proofs.Tests.{cond-by, both}
@@ -15,15 +15,19 @@ use Rattle.messages.specs.Message.{Request, Reply}
 use Rattle.messages.specs.Message.Reply.{getReply}
 use Rattle.store.specs.Contents.{isStorable, isAccepted}
 use Rattle.store.proofs.Tables.{either}
+use Rattle.schedule.proofs.NumberLaws.{accepted-listed}
 use Rattle.calls.specs.Board.{Identity}
 use Rattle.station_c.proofs.Checks.{taken-as}
 use Rattle.station_c.specs.Checks.{isTaken}
 use Rattle.station_c.specs.Encode.{Call, encodeGet, encodeSet, encodePowerRead, encodePowerControl, encodeDateRead, encodeDateWrite}
 use Rattle.station_c.specs.Encode.{encodeSerialRead, encodeModelRead, encodeTagRead, encodeFormerTagRead, encodeTagWrite}
+use Rattle.station_c.specs.Encode.{encodeScheduleRead, encodeScheduleWrite, encodeScheduleEnable}
 use Rattle.station_c.specs.Encode.{requestFor}
 use Rattle.exchange.specs.Rows.{Ready, Asks, Shows, Changes, Rows, Setting, table, IsStandby, shownAfter}
+use Rattle.exchange.specs.ScheduleRows.{ScheduleRows}
 use Rattle.exchange.proofs.Rows.{rows}
-use Rattle.exchange_c.specs.Demand2.{IsPassed, isErase, isEraseCall, Told, rowAt, isOn, got, set, tells, ById, Reads, accepts, SetLeaves, Leaves, Exchanged}
+use Rattle.exchange.proofs.ScheduleRows.{schedule-rows}
+use Rattle.exchange_c.specs.Demand2.{IsPassed, isErase, isEraseCall, Told, rowAt, isOn, got, set, passedProgram, tells, ById, Reads, accepts, SetLeaves, Leaves, Exchanged}
 use Rattle.exchange_c.proofs.Calls.{taken-request, packetTo, packet-last, encoded, own-address, all-address}
 use Rattle.exchange_c.proofs.Told.{tellsOf, read-told}
 
@@ -130,6 +134,9 @@ module _ (i : Identity) (m : List ℕ) (ready : Ready i m) where
   abbrev all : Rows i m
   all = rows i m ready
 
+  abbrev programs : ScheduleRows i m
+  programs = schedule-rows i m ready
+
   module _ (page code : ℕ) (p : page < 256) (c : code < 256) where
     -- C is told these numbers of a Get, behind the ID
     abbrev Gets : List ℕ → Type 0
@@ -208,6 +215,17 @@ module _ (i : Identity) (m : List ℕ) (ready : Ready i m) where
         asked-by-id i (x .left) encodeTagRead (x .ready) refl (x .shown .tag-shown),
         asked-by-id i (x .left) encodeFormerTagRead (x .ready) refl (x .shown .former-shown),
       )
+  call-asked (encodeScheduleRead k) h t other = shown (encodeScheduleRead k) (programs .read k (leb-true k 6 t)) refl
+  call-asked (encodeScheduleWrite k on-hour on-minute off-hour off-minute input week flags) h t other =
+      let c = encodeScheduleWrite k on-hour on-minute off-hour off-minute input week flags in
+      let ns = passedProgram k on-hour on-minute off-hour off-minute input week flags in
+      let x = programs .write ns (taken-request c h t) (rw t) in
+      let listed = le-leb k 6 (omega (arith, accepted-listed ns (taken-as c ∙ t))) in
+      changed c x (asked-by-id i (x .left) (encodeScheduleRead k) {left = x .left} (x .ready) listed (x .shown))
+  call-asked (encodeScheduleEnable k enable) h t other =
+      let b = both (leb k 6) (leb enable 1) t in
+      let x = programs .enable k enable (leb-true k 6 (b .0)) (leb-true enable 1 (b .1)) in
+      changed (encodeScheduleEnable k enable) x (asked-by-id i (x .left) (encodeScheduleRead k) (x .ready) (b .0) (x .shown))
 
 pub exchanged : (i : Identity) (m : List ℕ) → Ready i m → (c : Call) → IsPassed c → isTaken c ≡ true → isEraseCall c ≡ false → Exchanged i m c
 exchanged i m ready c h t other = asked-exchanged i m c ready t (call-asked i m ready c h t other)

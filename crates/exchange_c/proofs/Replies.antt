@@ -9,7 +9,8 @@ use borrow.Author.Tests.{eqb-true}
 use lib.Dec.{eqb}
 use Rattle.wire.specs.Packet.{replyPacket}
 use Rattle.messages.specs.Message.{Reply, IsReply, IsDate, isPowerMode}
-use Rattle.messages.specs.Message.Reply.{null, getReply, setReply, powerReadReply, powerControlReply, dateReadReply, dateWriteReply, itemReply, tagWriteReply}
+use Rattle.messages.specs.Message.ScheduleReply.{scheduleReadReply, scheduleWriteReply, scheduleEnableReply}
+use Rattle.messages.specs.Message.Reply.{null, getReply, setReply, powerReadReply, powerControlReply, dateReadReply, dateWriteReply, itemReply, tagWriteReply, scheduleReply}
 use Rattle.messages.specs.Text.{replyType, replyText}
 use Rattle.messages.specs.declared.message.Date.{Date}
 use Rattle.store.proofs.Tables.{either}
@@ -39,6 +40,9 @@ fits (dateReadReply d) h = date-fits d h
 fits (dateWriteReply status d) h = (h .0, date-fits d (h .1))
 fits (itemReply i bytes) h = record { few = h .0; bytes = h .1 }
 fits (tagWriteReply status tag) h = (h .0, record { few = h .1 .0; bytes = h .1 .1 })
+fits (scheduleReply (scheduleReadReply numbers)) h = record { sixteen = h .0; bytes = h .1 }
+fits (scheduleReply (scheduleWriteReply status numbers)) h = (h .0, record { sixteen = h .1 .0; bytes = h .1 .1 })
+fits (scheduleReply (scheduleEnableReply status k enable)) h = h
 
 mode-held : (mode : ℕ) → isPowerMode mode ≡ true → (mode ≡ 1) ⊎ ((mode ≡ 2) ⊎ (mode ≡ 4))
 mode-held mode e =
@@ -56,6 +60,9 @@ held (dateReadReply d) h = date-held d h
 held (dateWriteReply status d) h = (h .0, date-held d (h .1))
 held (itemReply i bytes) h = (h .few, h .bytes)
 held (tagWriteReply status tag) h = (h .0, (h .1 .few, h .1 .bytes))
+held (scheduleReply (scheduleReadReply numbers)) h = (h .sixteen, h .bytes)
+held (scheduleReply (scheduleWriteReply status numbers)) h = (h .0, (h .1 .sixteen, h .1 .bytes))
+held (scheduleReply (scheduleEnableReply status k enable)) h = h
 
 pub replies-told : (id : ℕ) (r : Reply) → 1 ≤ id → id ≤ 8 → MayHold r
     → IsTold (replyPacket (0x40 + id) (replyType r) (replyText r)) (tellsOf id r)

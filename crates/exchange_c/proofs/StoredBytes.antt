@@ -1,4 +1,4 @@
--- Every call stores bytes only, and a start stores nothing: a store of bytes stays one over every list of events.
+-- Every call stores bytes only, and so does a start that converts an older store: a store of bytes stays one over every list of events.
 use mathlib.Core.Path.{_≡_, refl}
 use mathlib.Core.Bool.{true, _&&_}
 use mathlib.Core.List.{List, [], _∷_}
@@ -11,37 +11,44 @@ use borrow.Author.Tests.{ltb-true}
 use Rattle.wire.specs.Digits.{Bytes}
 use Rattle.wire.specs.Packet.{packetText}
 use Rattle.wire.proofs.Tests.{cond-by, both}
-use Rattle.messages.specs.Message.{Request, IsRequest}
-use Rattle.messages.specs.Message.Request.{getParameter, setParameter, powerRead, powerControl, dateRead, dateWrite, itemRead, tagWrite}
+use Rattle.messages.specs.Message.{ScheduleRequest, Request, IsRequest}
+use Rattle.messages.specs.Message.ScheduleRequest.{scheduleRead, scheduleWrite, scheduleEnable}
+use Rattle.messages.specs.Message.Request.{getParameter, setParameter, powerRead, powerControl, dateRead, dateWrite, itemRead, tagWrite, schedule}
 use Rattle.messages.specs.Read.{requestIn}
 use Rattle.messages.proofs.ParseLaws.{Found, request-fits}
 use Rattle.receiver.specs.Receive as receive
-use Rattle.plan.specs.Stores.{applied}
+use Rattle.plan.specs.Stores.{Entry, entry, applied, rangeOf}
+use Rattle.plan.proofs.Laws.{applied-append}
 use Rattle.store.specs.Fields.{Field, fieldStores}
-use Rattle.store.specs.Layout.{power}
-use Rattle.layouts.specs.Layouts.{inRange, unusedStore}
+use Rattle.store.specs.Layout.{power, restPlace}
+use Rattle.layouts.specs.Layouts.{olderMark, layoutMark, isLayout, fitsLayout, conversion, unusedStore}
 use Rattle.store.specs.Settings.{settingAt, accepts, kept, fieldOf}
 use Rattle.store.specs.Contents.{isOn, isAccepted}
 use Rattle.store.specs.declared.settings.Row.{Row}
 use Rattle.store.proofs.Tables.{each}
 use Rattle.store.proofs.StoreLaws.{field-applied}
 use Rattle.store.proofs.DateLaws.{date-applied}
+use Rattle.schedule.specs.Programs.{enableField, unusedPrograms}
+use Rattle.schedule.specs.Numbers as program
+use Rattle.schedule.specs.Numbers.{isListed, isEnable, keptFields}
+use Rattle.schedule.proofs.ProgramLaws.{program-applied}
 use Rattle.calls.specs.Board.{Identity, Started, board, startRefused, after}
 use Rattle.calls.specs.Calls.{mark, eraseMark, refuse, onCall, onStep, onStart, clearStep, endStep}
 use Rattle.calls.specs.Lists.{call, step, cut, started, seen, from, run}
 use Rattle.calls.proofs.Steps.{Called, Stepped, refuses, clears, does, called, stepped, step-clears-or-ends}
 use Rattle.actions.specs.Act.{Effect, replies, begins, isErase, getEffect, setListed, setEffect, powerReadEffect, powerControlEffect, dateWriteEffect, effectOf, effect}
+use Rattle.actions.specs.Act.{scheduleWriteEffect, scheduleEnableEffect, scheduleEffect}
 use Rattle.packets.specs.Packets.{BoardState, BoardOutcome, isIdentity, Addressee, own, all, another, addressee, toOwn, toAll, onPacketTo, onPacket}
 use Rattle.board.specs.BoardKind as kind
 use Rattle.board.specs.BoardKind.{Call, byte, gap, onReceipt, startOther, boardKind}
 use Rattle.board.specs.Demand3.{Events}
-use Rattle.exchange.proofs.StoreBytes.{field-bytes, date-bytes, set-bytes, tag-bytes}
+use Rattle.exchange.proofs.StoreBytes.{field-bytes, date-bytes, program-bytes, set-bytes, range-bytes, tag-bytes}
 use Rattle.exchange.specs.Rows.{InBytes}
 use Rattle.exchange_c.specs.Demand2.{AllInBytes}
 
 -- ---- the bytes of an unused board
 
-tested-bytes : (s : List ℕ) → each (λ b. ltb b 256) s ≡ true → Bytes s
+pub tested-bytes : (s : List ℕ) → each (λ b. ltb b 256) s ≡ true → Bytes s
 tested-bytes [] e i = omega arith
 tested-bytes (b ∷ s) e zero = ltb-true b 256 (both (ltb b 256) (each (λ b. ltb b 256) s) e .0)
 tested-bytes (b ∷ s) e (suc i) = tested-bytes s (both (ltb b 256) (each (λ b. ltb b 256) s) e .1) i
@@ -66,6 +73,16 @@ module _ (m : List ℕ) (h : Bytes m) where
   set-keeps page code v (some r) =
       cond-by (Keeps m) (isOn m && accepts (r .values) v) _ _ (λ _. field-keeps (fieldOf r) (kept (r .values) v)) (λ _. h)
 
+  schedule-keeps : (r : ScheduleRequest) → Keeps m (scheduleEffect m r)
+  unfolding scheduleEffect scheduleWriteEffect scheduleEnableEffect
+  schedule-keeps (scheduleRead k) = h
+  schedule-keeps (scheduleWrite ns) =
+      let k = getD ns 0 0 in
+      let fs = keptFields ns in
+      cond-by (Keeps m) (program.isAccepted ns) _ _ (λ _. rw (program-applied m k fs) (program-bytes m k fs h)) (λ _. h)
+  schedule-keeps (scheduleEnable k enable) =
+      cond-by (Keeps m) (isListed k && isEnable enable) _ _ (λ _. field-keeps (enableField k) enable) (λ _. h)
+
   request-keeps : (i : Identity) (r : Request) → IsRequest r → Keeps m (effectOf i m r)
   unfolding effectOf getEffect setEffect powerReadEffect powerControlEffect dateWriteEffect
   request-keeps i (getParameter page code) is = h
@@ -78,6 +95,7 @@ module _ (m : List ℕ) (h : Bytes m) where
   request-keeps i (dateWrite d) is = cond-by (Keeps m) (isAccepted d) _ _ (λ _. rw (date-applied m d) (date-bytes m d h)) (λ _. h)
   request-keeps i (itemRead x) is = h
   request-keeps i (tagWrite tag) is = tag-bytes m tag h (is .bytes)
+  request-keeps i (schedule r) is = schedule-keeps r
 
   option-keeps : (i : Identity) (q : Option Request) → Found IsRequest q → Keeps m (effect i m q)
   option-keeps i none is = h
@@ -149,14 +167,24 @@ step-leaves s m lent h = go (stepped boardKind s m lent)
 
 -- ---- a start
 
--- a start gives a board and stores nothing, or is refused
-start-by : (P : Started BoardState → Type 0) (i : Identity) (m : List ℕ) → ((s : BoardState) → P (board s [])) → ((n : ℕ) → P (startRefused n))
-    → P (onStart boardKind i m)
+-- a start gives a board and stores nothing, or a conversion, or is refused
+start-by : (P : Started BoardState → Type 0) (i : Identity) (m : List ℕ) → ((s : BoardState) → P (board s []))
+    → ((s : BoardState) → P (board s (conversion m))) → ((n : ℕ) → P (startRefused n)) → P (onStart boardKind i m)
 unfolding onStart startOther
-start-by P i m given refused =
+start-by P i m given converted refused =
     cond-by P (eqb (length m) 128 && eqb (mark m) eraseMark) _ _ (λ _. cond-by P (isIdentity i) _ _ (λ _. given _) (λ _. refused 12))
-    (λ _. cond-by P (eqb (length m) 128 && eqb (mark m) (mark unusedStore)) _ _
-    (λ _. cond-by P (isIdentity i && inRange m) _ _ (λ _. given _) (λ _. refused 12)) (λ _. refused 11))
+    (λ _. cond-by P (eqb (length m) 128 && isLayout (mark m)) _ _
+    (λ _. cond-by P (isIdentity i && fitsLayout m) _ _ (λ _. converted _) (λ _. refused 12)) (λ _. refused 11))
+
+-- unused programs, and then the mark
+conversion-bytes : (m : List ℕ) → Bytes m → Bytes (applied (conversion m) m)
+unfolding conversion
+conversion-bytes m h =
+    cond-by (λ (es : List Entry). Bytes (applied es m)) (eqb (getD m 0 0) olderMark) _ _
+    (λ _. rw (applied-append (rangeOf restPlace unusedPrograms) (entry 0 layoutMark ∷ []) m)
+    (set-bytes (applied (rangeOf restPlace unusedPrograms) m) 0 layoutMark (omega arith)
+    (range-bytes restPlace unusedPrograms m (tested-bytes unusedPrograms refl) h)))
+    (λ _. h)
 
 -- ---- every list
 
@@ -170,7 +198,9 @@ run-leaves i s m [] h = tt
 run-leaves i s m (call c lent ∷ es) h = let k = stored i m _ h (call-leaves c s m lent (h .store)) in (k, run-leaves i _ _ es k)
 run-leaves i s m (step lent ∷ es) h = let k = stored i m _ h (step-leaves s m lent (h .store)) in (k, run-leaves i _ _ es k)
 run-leaves i s m (cut ∷ es) h =
-    start-by (λ x. AllInBytes i (from boardKind x m (λ s m. started m ∷ run boardKind i s m es))) i m (λ s. (h, run-leaves i s m es h)) (λ n. tt)
+    let k = stored i m _ h (conversion-bytes m (h .store)) in
+    start-by (λ x. AllInBytes i (from boardKind x m (λ s m. started m ∷ run boardKind i s m es))) i m
+    (λ s. (h, run-leaves i s m es h)) (λ s. (k, run-leaves i s _ es k)) (λ n. tt)
 
 pub bytes-kept : (s : BoardState) (m : List ℕ) (es : Events) → InBytes (s .ident) m → AllInBytes (s .ident) (run boardKind (s .ident) s m es)
 bytes-kept s m es h = run-leaves (s .ident) s m es h

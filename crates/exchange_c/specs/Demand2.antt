@@ -11,8 +11,9 @@ use lib.ListN.{length, take, replicate}
 use Rattle.bitfield.specs.Field.{getField}
 use Rattle.wire.specs.Digits.{Bytes}
 use Rattle.wire.specs.Packet.{replyPacket, over}
-use Rattle.messages.specs.Message.{Reply, IsRequest, IsItem, replyBytes}
-use Rattle.messages.specs.Message.Reply.{null, getReply, setReply, powerReadReply, powerControlReply, dateReadReply, dateWriteReply, itemReply, tagWriteReply}
+use Rattle.messages.specs.Message.{ScheduleReply, Reply, IsRequest, IsItem, replyBytes}
+use Rattle.messages.specs.Message.ScheduleReply.{scheduleReadReply, scheduleWriteReply, scheduleEnableReply}
+use Rattle.messages.specs.Message.Reply.{null, getReply, setReply, powerReadReply, powerControlReply, dateReadReply, dateWriteReply, itemReply, tagWriteReply, scheduleReply}
 use Rattle.messages.specs.Text.{replyType, replyText}
 use Rattle.messages.specs.declared.message.Date.{Date}
 use Rattle.calls.specs.Board.{Identity, Answer, waiting, silent, begun, more, ended, reply}
@@ -26,10 +27,12 @@ use Rattle.station.specs.Read as station
 use Rattle.station.specs.Read.{replySize}
 use Rattle.station_c.specs.Encode.{Call, encodeGet, encodeSet, encodePowerRead, encodePowerControl, encodeDateRead, encodeDateWrite}
 use Rattle.station_c.specs.Encode.{encodeSerialRead, encodeModelRead, encodeTagRead, encodeFormerTagRead, encodeTagWrite}
+use Rattle.station_c.specs.Encode.{encodeScheduleRead, encodeScheduleWrite, encodeScheduleEnable}
 use Rattle.station_c.specs.Encode.{requestFor, encodingFor, EncodesForC}
 use Rattle.station_c.specs.Checks.{isTaken}
 use Rattle.station_c.specs.Read.{replyKind, numbersOf, readInto, ReadsForC}
 use Rattle.exchange.specs.Rows.{InBytes, Ready, Setting, table, shownOf, shownAfter, tagIn, formerTagIn, heard}
+use Rattle.exchange.specs.ScheduleRows.{programIn, enabledIn}
 
 -- ---- what C passes
 
@@ -47,6 +50,10 @@ IsPassed encodeModelRead = Unit {0}
 IsPassed encodeTagRead = Unit {0}
 IsPassed encodeFormerTagRead = Unit {0}
 IsPassed (encodeTagWrite tag) = Bytes tag
+IsPassed (encodeScheduleRead k) = k < 256
+IsPassed (encodeScheduleWrite k on-hour on-minute off-hour off-minute input week flags) =
+    (k < 256) × (on-hour < 256) × (on-minute < 256) × (off-hour < 256) × (off-minute < 256) × (input < 256) × (week < 256) × (flags < 256)
+IsPassed (encodeScheduleEnable k enable) = (k < 256) × (enable < 256)
 
 abbrev pub isErase : ℕ → ℕ → Bool
 isErase page code = eqb page 0xF0 && eqb code 0x01
@@ -64,6 +71,9 @@ isEraseCall encodeModelRead = false
 isEraseCall encodeTagRead = false
 isEraseCall encodeFormerTagRead = false
 isEraseCall (encodeTagWrite tag) = false
+isEraseCall (encodeScheduleRead k) = false
+isEraseCall (encodeScheduleWrite k on-hour on-minute off-hour off-minute input week flags) = false
+isEraseCall (encodeScheduleEnable k enable) = false
 
 abbrev pub IsSent : Encoding → Type 0
 IsSent (sends packet) = Unit {0}
@@ -108,6 +118,11 @@ abbrev pub set : Option Setting → ℕ → ℕ → ℕ → List ℕ → List �
 set (some t) page code v m = cond (isOn m && t .takes v) 0 1 ∷ page ∷ code ∷ 0 ∷ t .largest ∷ v ∷ []
 set none page code v m = cond (isErase page code) (1 ∷ page ∷ code ∷ 1 ∷ 1 ∷ v ∷ []) (1 ∷ page ∷ code ∷ 0 ∷ 0 ∷ v ∷ [])
 
+-- the sixteen numbers of a program that is passed
+abbrev pub passedProgram : (k on-hour on-minute off-hour off-minute input week flags : ℕ) → List ℕ
+passedProgram k on-hour on-minute off-hour off-minute input week flags =
+    k ∷ on-hour ∷ on-minute ∷ off-hour ∷ off-minute ∷ input ∷ week ∷ flags ∷ replicate 8 0
+
 -- what a board with an identity and a store tells of itself, its ID first
 abbrev pub tells : Identity → List ℕ → Call → Told
 tells i m (encodeGet page code) = told 102 (i .id ∷ got (rowAt table page code) page code m) []
@@ -123,6 +138,10 @@ tells i m encodeModelRead = told 109 (i .id ∷ []) (i .model)
 tells i m encodeTagRead = told 110 (i .id ∷ []) (tagIn m)
 tells i m encodeFormerTagRead = told 111 (i .id ∷ []) (formerTagIn m)
 tells i m (encodeTagWrite tag) = told 112 (i .id ∷ 0 ∷ []) tag
+tells i m (encodeScheduleRead k) = told 113 (i .id ∷ []) (programIn m k)
+tells i m (encodeScheduleWrite k on-hour on-minute off-hour off-minute input week flags) =
+    told 114 (i .id ∷ 0 ∷ []) (passedProgram k on-hour on-minute off-hour off-minute input week flags)
+tells i m (encodeScheduleEnable k enable) = told 115 (i .id ∷ 0 ∷ k ∷ enable ∷ []) []
 
 -- ---- from end to end
 
@@ -176,6 +195,10 @@ Leaves i m encodeTagRead left = left ≡ m
 Leaves i m encodeFormerTagRead left = left ≡ m
 Leaves i m (encodeTagWrite tag) left =
     Reads i left encodeTagRead (told 110 (i .id ∷ []) tag) × Reads i left encodeFormerTagRead (told 111 (i .id ∷ []) (tagIn m))
+Leaves i m (encodeScheduleRead k) left = left ≡ m
+Leaves i m (encodeScheduleWrite k on-hour on-minute off-hour off-minute input week flags) left =
+    Reads i left (encodeScheduleRead k) (told 113 (i .id ∷ []) (passedProgram k on-hour on-minute off-hour off-minute input week flags))
+Leaves i m (encodeScheduleEnable k enable) left = Reads i left (encodeScheduleRead k) (told 113 (i .id ∷ []) (enabledIn m k enable))
 
 -- the board's own values are told, and what C passed is what the board then tells
 pub record Exchanged (i : Identity) (m : List ℕ) (c : Call) : Type 0 where
@@ -233,10 +256,15 @@ AllInBytes i (unstarted n ∷ os) = AllInBytes i os
 -- ---- replies
 
 -- What a reply may hold: results, statuses and operation types 0 or 1, modes 1, 2 or 4 in a power status, and else any number of two or four digits
--- and at most 16 bytes.
+-- and at most 16 bytes, of a program 16.
 abbrev pub MayHoldDate : Date → Type 0
 MayHoldDate d =
     (d .year < 256) × (d .month < 256) × (d .day < 256) × (d .weekday < 256) × (d .hour < 256) × (d .minute < 256) × (d .daylight < 256)
+
+abbrev pub MayHoldProgram : ScheduleReply → Type 0
+MayHoldProgram (scheduleReadReply numbers) = (length numbers ≡ 16) × Bytes numbers
+MayHoldProgram (scheduleWriteReply status numbers) = (status ≤ 1) × ((length numbers ≡ 16) × Bytes numbers)
+MayHoldProgram (scheduleEnableReply status k enable) = (status ≤ 1) × (k < 256) × (enable < 256)
 
 abbrev pub MayHold : Reply → Type 0
 MayHold null = Unit {0}
@@ -250,6 +278,7 @@ MayHold (dateReadReply d) = MayHoldDate d
 MayHold (dateWriteReply status d) = (status ≤ 1) × MayHoldDate d
 MayHold (itemReply i bytes) = (length bytes ≤ 16) × Bytes bytes
 MayHold (tagWriteReply status tag) = (status ≤ 1) × ((length tag ≤ 16) × Bytes tag)
+MayHold (scheduleReply r) = MayHoldProgram r
 
 -- ---- demand 2
 

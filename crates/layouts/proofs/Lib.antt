@@ -1,2 +1,4 @@
 pub mod UnusedLaws
 pub mod RangeLaws
+pub mod SpareLaws
+pub mod ConversionLaws

@@ -8,6 +8,7 @@ use borrow.Author.Tests.{eqb-true}
 use Rattle.bitfield.specs.Field.{getField, bit, bitOf}
 use Rattle.store.specs.Fields.{Field, read}
 use Rattle.store.specs.Layout.{fields, fieldsInRange}
+use Rattle.schedule.specs.Programs.{firstInRange}
 use Rattle.layouts.specs.Layouts.{inRange, unusedStore}
 use Rattle.store.specs.declared.settings.Row.{Row}
 use Rattle.store.specs.Settings.{settings, Listed, current}
@@ -20,12 +21,12 @@ pub unused-length : length unusedStore ≡ 128
 unfolding unusedStore
 unused-length = refl
 
-pub unused-mark : getD unusedStore 0 0 ≡ 0
+pub unused-mark : getD unusedStore 0 0 ≡ 1
 unfolding unusedStore
 unused-mark = refl
 
 pub unused-in-range : inRange unusedStore ≡ true
-unfolding inRange fieldsInRange unusedStore getField bit bitOf
+unfolding inRange fieldsInRange firstInRange unusedStore getField bit bitOf
 unused-in-range = refl
 
 pub unused-fields : each (λ f. eqb (read unusedStore f) (f .unused)) fields ≡ true

@@ -14,27 +14,33 @@ use Rattle.wire.specs.Packet.{typeB, typeD, typeF}
 use Rattle.wire.proofs.Tests.{cond-by}
 use Rattle.wire.proofs.DigitLaws.{two-below, four-below}
 use Rattle.messages.specs.Message.{Reply, IsParameter, IsReply, isPowerMode}
-use Rattle.messages.specs.Message.Reply.{getReply, setReply, dateReadReply, dateWriteReply, itemReply, tagWriteReply}
+use Rattle.messages.specs.Message.ScheduleReply.{scheduleReadReply, scheduleWriteReply}
+use Rattle.messages.specs.Message.Reply.{getReply, setReply, dateReadReply, dateWriteReply, itemReply, tagWriteReply, scheduleReply}
 use Rattle.messages.specs.Text.{powerControlName, powerReadReplyName, powerReadReplyFixed, dateReadReplyName, dateWriteReplyName}
-use Rattle.messages.specs.Text.{itemReplyName, tagWriteReplyName, nullName, dateText, parameterText, replyType, replyText}
+use Rattle.messages.specs.Text.{itemReplyName, tagWriteReplyName, scheduleReadReplyName, scheduleWriteReplyName, scheduleEnableReplyName}
+use Rattle.messages.specs.Text.{nullName, dateText, parameterText, scheduleReplyText, replyType, replyText}
 use Rattle.messages.specs.Read.{
   beginsWith,
   isName,
   flagAt,
   modeAt,
   dateIn,
+  numbersIn,
   parameterIn,
   powerReadReplyIn,
   powerControlReplyIn,
   dateWriteReplyIn,
   tagWriteReplyIn,
+  scheduleReadReplyIn,
+  scheduleWriteReplyIn,
+  scheduleEnableReplyIn,
   plainReplyIn,
   commandReplyIn,
   replyIn,
 }
 use Rattle.messages.specs.declared.message.Item.{Item}
-use Rattle.messages.proofs.ParseLaws.{Found, bind-found, map-found, date-found, item-fits}
-use Rattle.messages.proofs.WrittenBack.{two-at, four-at, name-written, ended, name-is, date-written, octets-written}
+use Rattle.messages.proofs.ParseLaws.{Found, bind-found, map-found, date-found, item-fits, numbers-found}
+use Rattle.messages.proofs.WrittenBack.{two-at, four-at, name-written, ended, name-is, date-written, octets-written, numbers-written}
 
 -- ---- the numbers of which only some are taken
 
@@ -173,13 +179,53 @@ module _ (kind : ℕ) (t : List ℕ) where
         ))
         (λ _. tt)
 
+    schedule-read-said : beginsWith scheduleReadReplyName t ≡ true → Said (scheduleReadReplyIn (drop 4 t))
+    unfolding replyType replyText scheduleReplyText
+    schedule-read-said b =
+        let s = drop 4 t in
+        map-found IsSaid (λ numbers. scheduleReply (scheduleReadReply numbers)) (numbersIn s)
+        (λ numbers e. (rw e at (numbers-found s), is, name-written scheduleReadReplyName t (hexOf numbers) b (rw e at (numbers-written s))))
+
+    schedule-write-said : beginsWith scheduleWriteReplyName t ≡ true → Said (scheduleWriteReplyIn (drop 4 t))
+    unfolding scheduleWriteReplyIn replyType replyText scheduleReplyText
+    schedule-write-said b =
+        let s = drop 4 t in
+        cond-by Said (eqb (length s) 34) _ _
+        (λ h. let n = eqb-true (length s) 34 h in
+        bind-found IsSaid (flagAt s 0) _ λ status a.
+        map-found IsSaid (λ numbers. scheduleReply (scheduleWriteReply status numbers)) (numbersIn (drop 2 s)) λ numbers e.
+        let flag = flag-told s 0 a in (
+          (flag .1, rw e at (numbers-found (drop 2 s))),
+          is,
+          name-written scheduleWriteReplyName t _ b (two-at s 0 (hexOf numbers) (omega arith) (flag .0) (rw e at (numbers-written (drop 2 s)))),
+        ))
+        (λ _. tt)
+
+    schedule-enable-said : beginsWith scheduleEnableReplyName t ≡ true → Said (scheduleEnableReplyIn (drop 4 t))
+    unfolding scheduleEnableReplyIn replyType replyText scheduleReplyText
+    schedule-enable-said b =
+        let s = drop 4 t in
+        cond-by Said (eqb (length s) 6) _ _
+        (λ h. let n = eqb-true (length s) 6 h in
+        bind-found IsSaid (flagAt s 0) _ λ status a.
+        bind-found IsSaid (twoAt s 2) _ λ program p.
+        bind-found IsSaid (twoAt s 4) _ λ enable e.
+        let flag = flag-told s 0 a in (
+          (flag .1, two-below s 2 p, two-below s 4 e),
+          is,
+          name-written scheduleEnableReplyName t _ b
+              (two-at s 0 _ (omega arith) (flag .0) (two-at s 2 _ (omega arith) p (two-at s 4 [] (omega arith) e (ended 6 s (omega arith))))),
+        ))
+        (λ _. tt)
+
     plain-said : Said (plainReplyIn t)
     unfolding plainReplyIn replyType replyText
     plain-said =
         cond-by Said (isName nullName t) _ _ (λ h. (tt, is, name-is nullName t h))
         (λ _. cond-by Said (beginsWith dateReadReplyName t) _ _ date-read-said
         (λ _. cond-by Said (beginsWith dateWriteReplyName t) _ _ date-write-said
-        (λ _. cond-by Said (beginsWith powerReadReplyName t) _ _ power-read-said (λ _. power-control-said))))
+        (λ _. cond-by Said (beginsWith scheduleEnableReplyName t) _ _ schedule-enable-said
+        (λ _. cond-by Said (beginsWith powerReadReplyName t) _ _ power-read-said (λ _. power-control-said)))))
 
     -- a serial number, a model or a tag, behind a name of four bytes
     item-said : (i : Item) (x : Option Reply) → length (itemReplyName i) ≡ 4 → Said x
@@ -200,7 +246,9 @@ module _ (kind : ℕ) (t : List ℕ) where
         (item-said Item.Model _ refl
         (item-said Item.Tag _ refl
         (item-said Item.FormerTag _ refl
-        (cond-by Said (beginsWith tagWriteReplyName t) _ _ tag-write-said (λ _. plain-said)))))
+        (cond-by Said (beginsWith tagWriteReplyName t) _ _ tag-write-said
+        (λ _. cond-by Said (beginsWith scheduleReadReplyName t) _ _ schedule-read-said
+        (λ _. cond-by Said (beginsWith scheduleWriteReplyName t) _ _ schedule-write-said (λ _. plain-said)))))))
 
   reply-said : Said (replyIn kind t)
   unfolding replyIn

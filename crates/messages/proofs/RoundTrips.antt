@@ -5,25 +5,30 @@ use mathlib.Core.List.{List, _++_}
 use mathlib.Core.Option.{none, some, bind}
 use mathlib.Core.Path.{_≡_, refl}
 use native.Mathlib.Omega.{arith}
-use borrow.Author.Tests.{le-leb, eqb-true}
+use borrow.Author.Tests.{le-leb, eq-eqb, eqb-true}
 use lib.Dec.{leb, eqb}
 use lib.ListN.{length}
 use Rattle.wire.specs.Digits.{digitOf, valueOf, join, two, hexOf, twoAt, fourAt, octetsIn}
 use Rattle.wire.specs.Judge.{isRequestType}
 use Rattle.wire.proofs.DigitLaws.{two-back, four-back, bytes-back, hex-length}
-use Rattle.messages.specs.Message.{Request, Reply, IsDate, IsItem, IsParameter, IsRequest, IsReply, isPowerMode}
-use Rattle.messages.specs.Message.Request.{getParameter, setParameter, powerRead, powerControl, dateRead, dateWrite, itemRead, tagWrite}
-use Rattle.messages.specs.Message.Reply.{null, getReply, setReply, powerReadReply, powerControlReply, dateReadReply, dateWriteReply, itemReply, tagWriteReply}
-use Rattle.messages.specs.Text.{dateText, parameterText, requestType, requestText, replyType, replyText}
+use Rattle.messages.specs.Message.{Request, Reply, IsDate, IsItem, IsNumbers, IsParameter, IsRequest, IsReply, isPowerMode}
+use Rattle.messages.specs.Message.ScheduleRequest.{scheduleRead, scheduleWrite, scheduleEnable}
+use Rattle.messages.specs.Message.ScheduleReply.{scheduleReadReply, scheduleWriteReply, scheduleEnableReply}
+use Rattle.messages.specs.Message.Request.{getParameter, setParameter, powerRead, powerControl, dateRead, dateWrite, itemRead, tagWrite, schedule}
+use Rattle.messages.specs.Message.Reply.{null, getReply, setReply, powerReadReply, powerControlReply, dateReadReply, dateWriteReply, itemReply, tagWriteReply, scheduleReply}
+use Rattle.messages.specs.Text.{dateText, parameterText, scheduleText, scheduleReplyText, requestType, requestText, replyType, replyText}
 use Rattle.messages.specs.Read.{
   beginsWith,
   isName,
   flagAt,
   modeAt,
   dateIn,
+  numbersIn,
   getIn,
   setIn,
   powerControlIn,
+  scheduleReadIn,
+  scheduleEnableIn,
   commandIn,
   requestIn,
   parameterIn,
@@ -31,6 +36,8 @@ use Rattle.messages.specs.Read.{
   powerControlReplyIn,
   dateWriteReplyIn,
   tagWriteReplyIn,
+  scheduleWriteReplyIn,
+  scheduleEnableReplyIn,
   plainReplyIn,
   commandReplyIn,
   replyIn,
@@ -78,6 +85,10 @@ date-back d h =
 item-back : (s : List ℕ) → IsItem s → octetsIn (hexOf s) ≡ some s
 item-back s h = bytes-back s (h .bytes) (h .few)
 
+numbers-back : (s : List ℕ) → IsNumbers s → numbersIn (hexOf s) ≡ some s
+unfolding numbersIn
+numbers-back s h = rw (eq-eqb (length (hexOf s)) 32 (omega (arith, hex-length s))) (bytes-back s (h .bytes) (omega arith))
+
 parameter-back : (reply : ℕ → ℕ → ℕ → ℕ → ℕ → ℕ → Reply) (r p c o l v : ℕ) → IsParameter r p c o l v
     → parameterIn reply (parameterText r p c o l v) ≡ some (reply r p c o l v)
 unfolding parameterIn parameterText flagAt twoAt fourAt bind
@@ -94,7 +105,7 @@ parameter-back reply r p c o l v h =
 -- ---- messages
 
 pub request-back : (r : Request) → IsRequest r → requestIn (requestType r) (requestText r) ≡ some r
-unfolding requestIn requestType requestText dateText beginsWith isName commandIn getIn setIn powerControlIn twoAt fourAt bind
+unfolding requestIn requestType requestText dateText scheduleText beginsWith isName commandIn getIn setIn powerControlIn scheduleReadIn scheduleEnableIn twoAt fourAt bind
 request-back (getParameter page code) h = rw (two-back page (h .0), two-back code (h .1))
 request-back (setParameter page code value) h = rw (two-back page (h .0), two-back code (h .1), four-back value (h .2))
 request-back powerRead h = refl
@@ -104,6 +115,9 @@ request-back (dateWrite d) h = rw (date-back d h)
 request-back (itemRead i) h =
     each-item (λ i. requestIn (requestType (itemRead i)) (requestText (itemRead i)) ≡ some (itemRead i)) refl refl refl refl i
 request-back (tagWrite tag) h = rw (item-back tag h)
+request-back (schedule (scheduleRead program)) h = rw (two-back program h)
+request-back (schedule (scheduleWrite numbers)) h = rw (numbers-back numbers h)
+request-back (schedule (scheduleEnable program enable)) h = rw (two-back program (h .0), two-back enable (h .1))
 
 -- 00 and 01 begin no name, so that C203D6 stands behind them
 status-is-no-name : (status mode : ℕ) → status ≤ 1
@@ -114,7 +128,7 @@ status-is-no-name (suc zero) mode h = refl
 status-is-no-name (suc (suc status)) mode h = absurd (omega arith)
 
 pub reply-back : (r : Reply) → IsReply r → replyIn (replyType r) (replyText r) ≡ some r
-unfolding replyIn replyType replyText dateText beginsWith isName commandReplyIn plainReplyIn powerReadReplyIn powerControlReplyIn dateWriteReplyIn tagWriteReplyIn flagAt modeAt twoAt fourAt bind
+unfolding replyIn replyType replyText dateText scheduleReplyText beginsWith isName commandReplyIn plainReplyIn powerReadReplyIn powerControlReplyIn dateWriteReplyIn tagWriteReplyIn scheduleWriteReplyIn scheduleEnableReplyIn flagAt modeAt twoAt fourAt bind
 reply-back null h = refl
 reply-back (getReply result page code operation largest value) h = parameter-back getReply result page code operation largest value h
 reply-back (setReply result page code operation largest value) h = parameter-back setReply result page code operation largest value h
@@ -128,6 +142,16 @@ reply-back (itemReply i bytes) h =
     each-item (λ i. replyIn (replyType (itemReply i bytes)) (replyText (itemReply i bytes)) ≡ some (itemReply i bytes)) (rw e) (rw e) (rw e) (rw e) i
 reply-back (tagWriteReply status tag) h =
     rw (le-leb 2 (length (two status ++ hexOf tag)) (omega arith), flag-back status (h .0), item-back tag (h .1))
+reply-back (scheduleReply (scheduleReadReply numbers)) h = rw (numbers-back numbers h)
+reply-back (scheduleReply (scheduleWriteReply status numbers)) h =
+    let behind = h .1 in
+    rw (
+      eq-eqb (length (two status ++ hexOf numbers)) 34 (omega (arith, hex-length numbers)),
+      flag-back status (h .0),
+      numbers-back numbers behind,
+    )
+reply-back (scheduleReply (scheduleEnableReply status program enable)) h =
+    rw (flag-back status (h .0), two-back program (h .1), two-back enable (h .2))
 
 -- ---- types and lengths
 
@@ -141,13 +165,14 @@ request-type dateRead = refl
 request-type (dateWrite d) = refl
 request-type (itemRead i) = refl
 request-type (tagWrite tag) = refl
+request-type (schedule r) = refl
 
 -- a text that a packet can hold: STX and ETX counted, it is 4 to 64 bytes long
 abbrev Travels : List ℕ → Type 0
 Travels t = (2 ≤ length t) × (length t ≤ 62)
 
 pub request-length : (r : Request) → IsRequest r → Travels (requestText r)
-unfolding requestText dateText
+unfolding requestText dateText scheduleText
 request-length (getParameter page code) h = omega arith
 request-length (setParameter page code value) h = omega arith
 request-length powerRead h = omega arith
@@ -156,9 +181,12 @@ request-length dateRead h = omega arith
 request-length (dateWrite d) h = omega arith
 request-length (itemRead i) h = each-item (λ i. Travels (requestText (itemRead i))) (omega arith) (omega arith) (omega arith) (omega arith) i
 request-length (tagWrite tag) h = omega (arith, hex-length tag)
+request-length (schedule (scheduleRead program)) h = omega arith
+request-length (schedule (scheduleWrite numbers)) h = omega (arith, hex-length numbers)
+request-length (schedule (scheduleEnable program enable)) h = omega arith
 
 pub reply-length : (r : Reply) → IsReply r → Travels (replyText r)
-unfolding replyText dateText parameterText
+unfolding replyText dateText parameterText scheduleReplyText
 reply-length null h = omega arith
 reply-length (getReply result page code operation largest value) h = omega arith
 reply-length (setReply result page code operation largest value) h = omega arith
@@ -170,3 +198,6 @@ reply-length (itemReply i bytes) h =
     let e = hex-length bytes in
     each-item (λ i. Travels (replyText (itemReply i bytes))) (omega arith) (omega arith) (omega arith) (omega arith) i
 reply-length (tagWriteReply status tag) h = omega (arith, hex-length tag)
+reply-length (scheduleReply (scheduleReadReply numbers)) h = omega (arith, hex-length numbers)
+reply-length (scheduleReply (scheduleWriteReply status numbers)) h = omega (arith, hex-length numbers)
+reply-length (scheduleReply (scheduleEnableReply status program enable)) h = omega arith

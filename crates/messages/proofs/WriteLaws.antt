@@ -46,13 +46,13 @@ pub parts-written : (kind n : ℕ) (ts : List (List ℕ)) {o b : List ℕ} → n
 unfolding over
 parts-written kind n ts {o} e ws = record { kind = refl; count = e; buffer = parts-behind [] o 0 0 ts refl refl ws }
 
--- a name of which only the length is known, and a part behind it
-pub named-written : (kind n : ℕ) (name t : List ℕ) {o m b : List ℕ} → length name ≡ 4 → n ≡ 4 + length t
-    → m ≡ paste o 0 name (length name) → b ≡ paste m 4 t (length t)
-    → Writes kind (name ++ t) (record { kind = kind; length = n }) o b
-named-written kind n name t e f w v =
-    let count : n ≡ length (name ++ t) = rw length-append (omega arith) in
-    parts-written kind n (name ∷ t ∷ []) count (put w (put (rw e v) done))
+-- a name of which only the length is known, and parts behind it
+pub named-written : (kind n : ℕ) (name : List ℕ) (ts : List (List ℕ)) {o m b : List ℕ} → length name ≡ 4 → n ≡ 4 + length (joined ts)
+    → m ≡ paste o 0 name (length name) → Pasted 0 m 4 ts b
+    → Writes kind (joined (name ∷ ts)) (record { kind = kind; length = n }) o b
+named-written kind n name ts e f w ws =
+    let count : n ≡ length (joined (name ∷ ts)) = rw (joined-cons name ts, length-append) (omega arith) in
+    parts-written kind n (name ∷ ts) count (put w (rw e ws))
 
 -- ---- the part of the bytes beside a message that the message counts
 

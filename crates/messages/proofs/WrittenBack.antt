@@ -15,9 +15,11 @@ use Rattle.wire.specs.Packet.{typeA, typeC, typeE}
 use Rattle.wire.proofs.Tests.{cond-by, both}
 use Rattle.wire.proofs.DigitLaws.{digit-below, two-below}
 use Rattle.messages.specs.Message.{Request, IsRequest}
-use Rattle.messages.specs.Message.Request.{powerRead, dateRead, dateWrite, itemRead, tagWrite}
-use Rattle.messages.specs.Text.{powerControlName, dateWriteName, tagWriteName, dateText, requestType, requestText}
-use Rattle.messages.specs.Read.{beginsWith, isName, dateIn, getIn, setIn, powerControlIn, commandIn, requestIn}
+use Rattle.messages.specs.Message.ScheduleRequest.{scheduleWrite}
+use Rattle.messages.specs.Message.Request.{powerRead, dateRead, dateWrite, itemRead, tagWrite, schedule}
+use Rattle.messages.specs.Text.{powerControlName, dateWriteName, tagWriteName, scheduleReadName, scheduleWriteName, scheduleEnableName}
+use Rattle.messages.specs.Text.{dateText, scheduleText, requestType, requestText}
+use Rattle.messages.specs.Read.{beginsWith, isName, dateIn, numbersIn, getIn, setIn, powerControlIn, scheduleReadIn, scheduleWriteIn, scheduleEnableIn, commandIn, requestIn}
 use Rattle.messages.specs.declared.message.Item.{Item}
 use Rattle.messages.proofs.ParseLaws.{Found, bind-found, map-found, request-fits}
 
@@ -121,6 +123,10 @@ pub octets-written : (t : List ℕ) → Found (λ s. hexOf s ≡ t) (octetsIn t)
 unfolding octetsIn
 octets-written t = cond-by (Found (λ s. hexOf s ≡ t)) (ltb 32 (length t)) _ _ (λ _. tt) (λ _. unhex-written t)
 
+pub numbers-written : (t : List ℕ) → Found (λ s. hexOf s ≡ t) (numbersIn t)
+unfolding numbersIn
+numbers-written t = cond-by (Found (λ s. hexOf s ≡ t)) (eqb (length t) 32) _ _ (λ _. octets-written t) (λ _. tt)
+
 -- ---- requests
 
 module _ (kind : ℕ) (t : List ℕ) where
@@ -174,6 +180,36 @@ module _ (kind : ℕ) (t : List ℕ) where
     tag-said b =
         map-found IsSaid tagWrite (octetsIn (drop 4 t)) (λ s e. (is, name-written tagWriteName t (hexOf s) b (rw e at (octets-written (drop 4 t)))))
 
+    schedule-read-said : beginsWith scheduleReadName t ≡ true → Said (scheduleReadIn (drop 4 t))
+    unfolding scheduleReadIn requestType requestText scheduleText
+    schedule-read-said b =
+        let s = drop 4 t in
+        cond-by Said (eqb (length s) 2) _ _
+        (λ h. let l = eqb-true (length s) 2 h in
+        bind-found IsSaid (twoAt s 0) _ λ program a.
+        (is, name-written scheduleReadName t (two program) b (two-at s 0 [] (omega arith) a (ended 2 s (omega arith)))))
+        (λ _. tt)
+
+    schedule-write-said : beginsWith scheduleWriteName t ≡ true → Said (scheduleWriteIn (drop 4 t))
+    unfolding requestType requestText scheduleText
+    schedule-write-said b =
+        map-found IsSaid (λ numbers. schedule (scheduleWrite numbers)) (numbersIn (drop 4 t))
+        (λ s e. (is, name-written scheduleWriteName t (hexOf s) b (rw e at (numbers-written (drop 4 t)))))
+
+    schedule-enable-said : beginsWith scheduleEnableName t ≡ true → Said (scheduleEnableIn (drop 4 t))
+    unfolding scheduleEnableIn requestType requestText scheduleText
+    schedule-enable-said b =
+        let s = drop 4 t in
+        cond-by Said (eqb (length s) 4) _ _
+        (λ h. let l = eqb-true (length s) 4 h in
+        bind-found IsSaid (twoAt s 0) _ λ program a.
+        bind-found IsSaid (twoAt s 2) _ λ enable c. (
+          is,
+          name-written scheduleEnableName t (two program ++ two enable) b
+              (two-at s 0 _ (omega arith) a (two-at s 2 [] (omega arith) c (ended 4 s (omega arith)))),
+        ))
+        (λ _. tt)
+
     -- a request whose text is a name
     named : (r : Request) (x : Option Request) → requestType r ≡ typeA → Said x → Said (cond (isName (requestText r) t) (some r) x)
     named r x a f = cond-by Said (isName (requestText r) t) _ _ (λ h. (a ∙ is, name-is (requestText r) t h)) (λ _. f)
@@ -188,7 +224,9 @@ module _ (kind : ℕ) (t : List ℕ) where
         (named (itemRead Item.Tag) _ refl
         (named (itemRead Item.FormerTag) _ refl
         (cond-by Said (beginsWith powerControlName t) _ _ power-said
-        (λ _. cond-by Said (beginsWith dateWriteName t) _ _ date-said (λ _. tt))))))))
+        (λ _. cond-by Said (beginsWith dateWriteName t) _ _ date-said
+        (λ _. cond-by Said (beginsWith scheduleReadName t) _ _ schedule-read-said
+        (λ _. cond-by Said (beginsWith scheduleEnableName t) _ _ schedule-enable-said (λ _. tt))))))))))
 
   request-said : Said (requestIn kind t)
   unfolding requestIn
@@ -196,7 +234,10 @@ module _ (kind : ℕ) (t : List ℕ) where
       cond-by Said (eqb kind typeC) _ _ (λ h. get-said (sym (eqb-true kind typeC h)))
       (λ _. cond-by Said (eqb kind typeE) _ _ (λ h. set-said (sym (eqb-true kind typeE h)))
       (λ _. cond-by Said (eqb kind typeA) _ _
-      (λ h. let is = sym (eqb-true kind typeA h) in cond-by Said (beginsWith tagWriteName t) _ _ (tag-said is) (λ _. command-said is)) (λ _. tt)))
+      (λ h. let is = sym (eqb-true kind typeA h) in
+      cond-by Said (beginsWith tagWriteName t) _ _ (tag-said is)
+      (λ _. cond-by Said (beginsWith scheduleWriteName t) _ _ (schedule-write-said is) (λ _. command-said is)))
+      (λ _. tt)))
 
 pub request-written-back : (kind : ℕ) (t : List ℕ) {r : Request} → requestIn kind t ≡ some r
     → IsRequest r × (requestType r ≡ kind) × (requestText r ≡ t)

@@ -9,11 +9,14 @@ use lib.Dec.{leb, eqb}
 use lib.ListN.{length, drop}
 use Rattle.wire.specs.Digits.{twoAt, fourAt, octetsIn}
 use Rattle.messages.specs.Message.{Request, Reply, isPowerMode}
-use Rattle.messages.specs.Message.Request.{getParameter, setParameter, powerRead, powerControl, dateRead, dateWrite, itemRead, tagWrite}
-use Rattle.messages.specs.Message.Reply.{null, getReply, setReply, powerReadReply, powerControlReply, dateReadReply, dateWriteReply, itemReply, tagWriteReply}
+use Rattle.messages.specs.Message.ScheduleRequest.{scheduleRead, scheduleWrite, scheduleEnable}
+use Rattle.messages.specs.Message.ScheduleReply.{scheduleReadReply, scheduleWriteReply, scheduleEnableReply}
+use Rattle.messages.specs.Message.Request.{getParameter, setParameter, powerRead, powerControl, dateRead, dateWrite, itemRead, tagWrite, schedule}
+use Rattle.messages.specs.Message.Reply.{null, getReply, setReply, powerReadReply, powerControlReply, dateReadReply, dateWriteReply, itemReply, tagWriteReply, scheduleReply}
 use Rattle.wire.specs.Packet.{typeA, typeB, typeC, typeD, typeE, typeF}
 use Rattle.messages.specs.Text.{powerReadName, powerControlName, powerReadReplyName, powerReadReplyFixed, dateReadName, dateReadReplyName}
 use Rattle.messages.specs.Text.{dateWriteName, dateWriteReplyName, itemReadName, itemReplyName, tagWriteName, tagWriteReplyName, nullName}
+use Rattle.messages.specs.Text.{scheduleReadName, scheduleReadReplyName, scheduleWriteName, scheduleWriteReplyName, scheduleEnableName, scheduleEnableReplyName}
 use Rattle.messages.specs.declared.message.Date.{Date}
 use Rattle.messages.specs.declared.message.Item.{Item}
 
@@ -51,6 +54,10 @@ dateIn t =
     some (record { year = yy; month = mm; day = dd; weekday = ww; hour = hh; minute = mn; daylight = ds }))
     none
 
+-- sixteen numbers of two digits
+unfoldable pub numbersIn : List ℕ → Option (List ℕ)
+numbersIn t = cond (eqb (length t) 32) (octetsIn t) none
+
 -- ---- requests
 
 -- type C: page, code
@@ -76,13 +83,32 @@ setIn t =
 unfoldable pub powerControlIn : List ℕ → Option Request
 powerControlIn t = cond (eqb (length t) 4) (bind (fourAt t 0) λ mode. some (powerControl mode)) none
 
+-- behind C221: the program
+unfoldable pub scheduleReadIn : List ℕ → Option Request
+scheduleReadIn t = cond (eqb (length t) 2) (bind (twoAt t 0) λ program. some (schedule (scheduleRead program))) none
+
+-- behind C222: the sixteen numbers
+abbrev pub scheduleWriteIn : List ℕ → Option Request
+scheduleWriteIn t = Option·map (λ numbers. schedule (scheduleWrite numbers)) (numbersIn t)
+
+-- behind C215: the program and the enable
+unfoldable pub scheduleEnableIn : List ℕ → Option Request
+scheduleEnableIn t =
+    cond (eqb (length t) 4)
+    (bind (twoAt t 0) λ program.
+    bind (twoAt t 2) λ enable.
+    some (schedule (scheduleEnable program enable)))
+    none
+
 -- a value behind the name
 abbrev pub valueCommandIn : List ℕ → Option Request
 valueCommandIn t =
     cond (beginsWith powerControlName t) (powerControlIn (drop 6 t))
-    (cond (beginsWith dateWriteName t) (Option·map dateWrite (dateIn (drop 4 t))) none)
+    (cond (beginsWith dateWriteName t) (Option·map dateWrite (dateIn (drop 4 t)))
+    (cond (beginsWith scheduleReadName t) (scheduleReadIn (drop 4 t))
+    (cond (beginsWith scheduleEnableName t) (scheduleEnableIn (drop 4 t)) none)))
 
--- type A, but for the tag write
+-- type A, but for the requests that carry bytes
 unfoldable pub commandIn : List ℕ → Option Request
 commandIn t =
     cond (isName powerReadName t) (some powerRead)
@@ -98,7 +124,8 @@ requestIn kind t =
     cond (eqb kind typeC) (getIn t)
     (cond (eqb kind typeE) (setIn t)
     (cond (eqb kind typeA)
-    (cond (beginsWith tagWriteName t) (Option·map tagWrite (octetsIn (drop 4 t))) (commandIn t))
+    (cond (beginsWith tagWriteName t) (Option·map tagWrite (octetsIn (drop 4 t)))
+    (cond (beginsWith scheduleWriteName t) (scheduleWriteIn (drop 4 t)) (commandIn t)))
     none))
 
 -- ---- replies
@@ -150,14 +177,37 @@ dateWriteReplyIn t = cond (eqb (length t) 16) (bind (flagAt t 0) λ status. Opti
 unfoldable pub tagWriteReplyIn : List ℕ → Option Reply
 tagWriteReplyIn t = cond (leb 2 (length t)) (bind (flagAt t 0) λ status. Option·map (tagWriteReply status) (octetsIn (drop 2 t))) none
 
--- type B, replies without bytes of a serial number, a model or a tag
+-- behind C321: the sixteen numbers
+abbrev pub scheduleReadReplyIn : List ℕ → Option Reply
+scheduleReadReplyIn t = Option·map (λ numbers. scheduleReply (scheduleReadReply numbers)) (numbersIn t)
+
+-- behind C322: status, the sixteen numbers
+unfoldable pub scheduleWriteReplyIn : List ℕ → Option Reply
+scheduleWriteReplyIn t =
+    cond (eqb (length t) 34)
+    (bind (flagAt t 0) λ status.
+    Option·map (λ numbers. scheduleReply (scheduleWriteReply status numbers)) (numbersIn (drop 2 t)))
+    none
+
+-- behind C315: status, the program, the enable
+unfoldable pub scheduleEnableReplyIn : List ℕ → Option Reply
+scheduleEnableReplyIn t =
+    cond (eqb (length t) 6)
+    (bind (flagAt t 0) λ status.
+    bind (twoAt t 2) λ program.
+    bind (twoAt t 4) λ enable.
+    some (scheduleReply (scheduleEnableReply status program enable)))
+    none
+
+-- type B, replies without bytes
 unfoldable pub plainReplyIn : List ℕ → Option Reply
 plainReplyIn t =
     cond (isName nullName t) (some null)
     (cond (beginsWith dateReadReplyName t) (Option·map dateReadReply (dateIn (drop 4 t)))
     (cond (beginsWith dateWriteReplyName t) (dateWriteReplyIn (drop 4 t))
+    (cond (beginsWith scheduleEnableReplyName t) (scheduleEnableReplyIn (drop 4 t))
     (cond (beginsWith powerReadReplyName t) (powerReadReplyIn (drop 2 t))
-    (powerControlReplyIn t))))
+    (powerControlReplyIn t)))))
 
 -- type B
 unfoldable pub commandReplyIn : List ℕ → Option Reply
@@ -166,7 +216,9 @@ commandReplyIn t =
     (cond (beginsWith (itemReplyName Item.Model) t) (Option·map (itemReply Item.Model) (octetsIn (drop 4 t)))
     (cond (beginsWith (itemReplyName Item.Tag) t) (Option·map (itemReply Item.Tag) (octetsIn (drop 4 t)))
     (cond (beginsWith (itemReplyName Item.FormerTag) t) (Option·map (itemReply Item.FormerTag) (octetsIn (drop 4 t)))
-    (cond (beginsWith tagWriteReplyName t) (tagWriteReplyIn (drop 4 t)) (plainReplyIn t)))))
+    (cond (beginsWith tagWriteReplyName t) (tagWriteReplyIn (drop 4 t))
+    (cond (beginsWith scheduleReadReplyName t) (scheduleReadReplyIn (drop 4 t))
+    (cond (beginsWith scheduleWriteReplyName t) (scheduleWriteReplyIn (drop 4 t)) (plainReplyIn t)))))))
 
 -- the reply in a text of a type
 unfoldable pub replyIn : ℕ → List ℕ → Option Reply

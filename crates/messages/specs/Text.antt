@@ -4,9 +4,11 @@ use mathlib.Core.List.{List, [], _∷_, _++_}
 use Prim.Native.Nat.{ℕ}
 use Rattle.wire.specs.Digits.{two, four, hexOf}
 use Rattle.wire.specs.Packet.{typeA, typeB, typeC, typeD, typeE, typeF}
-use Rattle.messages.specs.Message.{Request, Reply}
-use Rattle.messages.specs.Message.Request.{getParameter, setParameter, powerRead, powerControl, dateRead, dateWrite, itemRead, tagWrite}
-use Rattle.messages.specs.Message.Reply.{null, getReply, setReply, powerReadReply, powerControlReply, dateReadReply, dateWriteReply, itemReply, tagWriteReply}
+use Rattle.messages.specs.Message.{ScheduleRequest, ScheduleReply, Request, Reply}
+use Rattle.messages.specs.Message.ScheduleRequest.{scheduleRead, scheduleWrite, scheduleEnable}
+use Rattle.messages.specs.Message.ScheduleReply.{scheduleReadReply, scheduleWriteReply, scheduleEnableReply}
+use Rattle.messages.specs.Message.Request.{getParameter, setParameter, powerRead, powerControl, dateRead, dateWrite, itemRead, tagWrite, schedule}
+use Rattle.messages.specs.Message.Reply.{null, getReply, setReply, powerReadReply, powerControlReply, dateReadReply, dateWriteReply, itemReply, tagWriteReply, scheduleReply}
 use Rattle.messages.specs.declared.message.Date.{Date}
 use Rattle.messages.specs.declared.message.Item.{Item}
 
@@ -62,6 +64,27 @@ tagWriteName = 0x46 ∷ 0x30 ∷ 0x31 ∷ 0x31 ∷ []
 abbrev pub tagWriteReplyName : List ℕ
 tagWriteReplyName = 0x46 ∷ 0x31 ∷ 0x31 ∷ 0x31 ∷ []
 
+-- C221 and C321
+abbrev pub scheduleReadName : List ℕ
+scheduleReadName = 0x43 ∷ 0x32 ∷ 0x32 ∷ 0x31 ∷ []
+
+abbrev pub scheduleReadReplyName : List ℕ
+scheduleReadReplyName = 0x43 ∷ 0x33 ∷ 0x32 ∷ 0x31 ∷ []
+
+-- C222 and C322
+abbrev pub scheduleWriteName : List ℕ
+scheduleWriteName = 0x43 ∷ 0x32 ∷ 0x32 ∷ 0x32 ∷ []
+
+abbrev pub scheduleWriteReplyName : List ℕ
+scheduleWriteReplyName = 0x43 ∷ 0x33 ∷ 0x32 ∷ 0x32 ∷ []
+
+-- C215 and C315
+abbrev pub scheduleEnableName : List ℕ
+scheduleEnableName = 0x43 ∷ 0x32 ∷ 0x31 ∷ 0x35 ∷ []
+
+abbrev pub scheduleEnableReplyName : List ℕ
+scheduleEnableReplyName = 0x43 ∷ 0x33 ∷ 0x31 ∷ 0x35 ∷ []
+
 -- BE
 abbrev pub nullName : List ℕ
 nullName = 0x42 ∷ 0x45 ∷ []
@@ -78,6 +101,18 @@ unfoldable pub parameterText : ℕ → ℕ → ℕ → ℕ → ℕ → ℕ → L
 parameterText result page code operation largest value =
     two result ++ (two page ++ (two code ++ (two operation ++ (four largest ++ four value))))
 
+-- the program; the sixteen numbers, two digits each; the program and the enable
+unfoldable pub scheduleText : ScheduleRequest → List ℕ
+scheduleText (scheduleRead program) = scheduleReadName ++ two program
+scheduleText (scheduleWrite numbers) = scheduleWriteName ++ hexOf numbers
+scheduleText (scheduleEnable program enable) = scheduleEnableName ++ (two program ++ two enable)
+
+-- the same behind a status, where something was to change
+unfoldable pub scheduleReplyText : ScheduleReply → List ℕ
+scheduleReplyText (scheduleReadReply numbers) = scheduleReadReplyName ++ hexOf numbers
+scheduleReplyText (scheduleWriteReply status numbers) = scheduleWriteReplyName ++ (two status ++ hexOf numbers)
+scheduleReplyText (scheduleEnableReply status program enable) = scheduleEnableReplyName ++ (two status ++ (two program ++ two enable))
+
 unfoldable pub requestType : Request → ℕ
 requestType (getParameter page code) = typeC
 requestType (setParameter page code value) = typeE
@@ -87,6 +122,7 @@ requestType dateRead = typeA
 requestType (dateWrite d) = typeA
 requestType (itemRead i) = typeA
 requestType (tagWrite tag) = typeA
+requestType (schedule r) = typeA
 
 unfoldable pub requestText : Request → List ℕ
 requestText (getParameter page code) = two page ++ two code
@@ -97,6 +133,7 @@ requestText dateRead = dateReadName
 requestText (dateWrite d) = dateWriteName ++ dateText d
 requestText (itemRead i) = itemReadName i
 requestText (tagWrite tag) = tagWriteName ++ hexOf tag
+requestText (schedule r) = scheduleText r
 
 unfoldable pub replyType : Reply → ℕ
 replyType null = typeB
@@ -108,6 +145,7 @@ replyType (dateReadReply d) = typeB
 replyType (dateWriteReply status d) = typeB
 replyType (itemReply i bytes) = typeB
 replyType (tagWriteReply status tag) = typeB
+replyType (scheduleReply r) = typeB
 
 unfoldable pub replyText : Reply → List ℕ
 replyText null = nullName
@@ -119,3 +157,4 @@ replyText (dateReadReply d) = dateReadReplyName ++ dateText d
 replyText (dateWriteReply status d) = dateWriteReplyName ++ (two status ++ dateText d)
 replyText (itemReply i bytes) = itemReplyName i ++ hexOf bytes
 replyText (tagWriteReply status tag) = tagWriteReplyName ++ (two status ++ hexOf tag)
+replyText (scheduleReply r) = scheduleReplyText r

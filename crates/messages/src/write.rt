@@ -5,9 +5,9 @@ ghost use Prim.Native.Nat.{_+_, _≤_};
 ghost use lib.ListN.{length};
 ghost use lib.Seq.{paste};
 ghost use Rattle.wire.specs.Digits.{two, four, hexOf};
-ghost use Rattle.messages.specs.Text.{powerControlName, powerReadReplyName, powerReadReplyFixed, dateWriteReplyName, tagWriteReplyName, itemReadName, itemReplyName, dateText, parameterText, requestType, requestText, replyType, replyText};
+ghost use Rattle.messages.specs.Text.{powerControlName, powerReadReplyName, powerReadReplyFixed, dateWriteReplyName, scheduleReadName, scheduleEnableName, scheduleEnableReplyName, itemReadName, itemReplyName, dateText, parameterText, scheduleText, scheduleReplyText, requestType, requestText, replyType, replyText};
 ghost use Rattle.wire.specs.Packet.{typeA, typeB, typeC, typeE};
-ghost use Rattle.messages.specs.View.{requestOf, replyOf, statusNumber, modeNumber, dateAnswerOf, requestCount, replyCount};
+ghost use Rattle.messages.specs.View.{requestOf, replyOf, statusNumber, modeNumber, dateAnswerOf, scheduleRequestOf, scheduleAnswerOf, scheduleRequestCount, scheduleAnswerCount, requestCount, replyCount};
 ghost use Rattle.messages.specs.Inner.{Beside, Writes};
 use crate::message::Date;
 use crate::message::DateAnswer;
@@ -16,6 +16,8 @@ use crate::message::Parameter;
 use crate::message::PowerMode;
 use crate::message::Reply;
 use crate::message::Request;
+use crate::message::ScheduleAnswer;
+use crate::message::ScheduleRequest;
 use crate::message::Status;
 use wire::digits;
 use wire::packet;
@@ -26,7 +28,7 @@ pub struct Written {
     pub length: usize,
 }
 
-// Writes the text of a request, with a tag's bytes beside it.
+// Writes the text of a request, with a tag's bytes or a schedule's numbers beside it.
 pub fn request_text(request: Request, bytes: &[u8], text: &mut [u8; 62]) -> Written
     requires { ⌜ Beside (requestCount request) (now bytes) ⌝ }
     ensures { λ r. ⌜ Writes (requestType (requestOf request (now (bytes .entry)))) (requestText (requestOf request (now (bytes .entry)))) r (now (text .entry)) (now (text .exit)) ⌝ }
@@ -58,10 +60,13 @@ pub fn request_text(request: Request, bytes: &[u8], text: &mut [u8; 62]) -> Writ
             let n = count as usize;
             return put_named_bytes(packet::TYPE_A, b"F011", &bytes[..n], text);
         }
+        Request::Schedule(asked) => {
+            return put_schedule(asked, bytes, text);
+        }
     }
 }
 
-// Writes the text of a reply, with the bytes of a serial number, a model or a tag beside it.
+// Writes the text of a reply, with the bytes of a serial number, a model or a tag, or a schedule's numbers, beside it.
 pub fn reply_text(reply: Reply, bytes: &[u8], text: &mut [u8; 62]) -> Written
     requires { ⌜ Beside (replyCount reply) (now bytes) ⌝ }
     ensures { λ r. ⌜ Writes (replyType (replyOf reply (now (bytes .entry)))) (replyText (replyOf reply (now (bytes .entry)))) r (now (text .entry)) (now (text .exit)) ⌝ }
@@ -92,7 +97,10 @@ pub fn reply_text(reply: Reply, bytes: &[u8], text: &mut [u8; 62]) -> Written
         }
         Reply::TagWritten(status, count) => {
             let n = count as usize;
-            return put_tag_write_reply(status, &bytes[..n], text);
+            return put_status_and_bytes(b"F111", status, &bytes[..n], text);
+        }
+        Reply::Schedule(answer) => {
+            return put_schedule_reply(answer, bytes, text);
         }
     }
 }
@@ -235,17 +243,102 @@ fn put_date_write_reply(status: Status, date: Date, text: &mut [u8; 62]) -> Writ
     }
 }
 
-// F111, status and the tag.
-fn put_tag_write_reply(status: Status, tag: &[u8], text: &mut [u8; 62]) -> Written
-    requires { ⌜ length (now tag) ≤ 16 ⌝ }
-    ensures { λ r. ⌜ Writes typeB (tagWriteReplyName ++ (two (statusNumber status) ++ hexOf (now (tag .entry)))) r (now (text .entry)) (now (text .exit)) ⌝ }
+// A name, a status and bytes behind them, two digits each.
+fn put_status_and_bytes(
+    name: &[u8; 4],
+    status: Status,
+    bytes: &[u8],
+    text: &mut [u8; 62],
+) -> Written
+    requires { ⌜ length (now bytes) ≤ 16 ⌝ }
+    ensures { λ r. ⌜ Writes typeB (now (name .entry) ++ (two (statusNumber status) ++ hexOf (now (bytes .entry)))) r (now (text .entry)) (now (text .exit)) ⌝ }
 {
-    digits::put_bytes(text, 0, b"F111");
+    digits::put_bytes(text, 0, name);
     digits::put_two(text, 4, status.number());
-    digits::put_hex(text, 6, tag);
+    digits::put_hex(text, 6, bytes);
     Written {
         kind: packet::TYPE_B,
-        length: 6 + 2 * tag.len(),
+        length: 6 + 2 * bytes.len(),
+    }
+}
+
+// C221 and the program, C222 and the sixteen numbers, or C215, the program and the enable.
+fn put_schedule(request: ScheduleRequest, bytes: &[u8], text: &mut [u8; 62]) -> Written
+    requires { ⌜ Beside (scheduleRequestCount request) (now bytes) ⌝ }
+    ensures { λ r. ⌜ Writes typeA (scheduleText (scheduleRequestOf request (now (bytes .entry)))) r (now (text .entry)) (now (text .exit)) ⌝ }
+{
+    match request {
+        ScheduleRequest::Read(program) => {
+            return put_schedule_read(program, text);
+        }
+        ScheduleRequest::Write => {
+            return put_named_bytes(packet::TYPE_A, b"C222", &bytes[..16], text);
+        }
+        ScheduleRequest::Enable(program, enable) => {
+            return put_schedule_enable(program, enable, text);
+        }
+    }
+}
+
+// C221 and the program.
+fn put_schedule_read(program: u8, text: &mut [u8; 62]) -> Written
+    ensures { λ r. ⌜ Writes typeA (scheduleReadName ++ two program) r (now (text .entry)) (now (text .exit)) ⌝ }
+{
+    digits::put_bytes(text, 0, b"C221");
+    digits::put_two(text, 4, program);
+    Written {
+        kind: packet::TYPE_A,
+        length: 6,
+    }
+}
+
+// C215, the program and the enable.
+fn put_schedule_enable(program: u8, enable: u8, text: &mut [u8; 62]) -> Written
+    ensures { λ r. ⌜ Writes typeA (scheduleEnableName ++ (two program ++ two enable)) r (now (text .entry)) (now (text .exit)) ⌝ }
+{
+    digits::put_bytes(text, 0, b"C215");
+    digits::put_two(text, 4, program);
+    digits::put_two(text, 6, enable);
+    Written {
+        kind: packet::TYPE_A,
+        length: 8,
+    }
+}
+
+// C321 and the sixteen numbers, C322, status and the sixteen numbers, or C315, status, the program and the enable.
+fn put_schedule_reply(answer: ScheduleAnswer, bytes: &[u8], text: &mut [u8; 62]) -> Written
+    requires { ⌜ Beside (scheduleAnswerCount answer) (now bytes) ⌝ }
+    ensures { λ r. ⌜ Writes typeB (scheduleReplyText (scheduleAnswerOf answer (now (bytes .entry)))) r (now (text .entry)) (now (text .exit)) ⌝ }
+{
+    match answer {
+        ScheduleAnswer::Read => {
+            return put_named_bytes(packet::TYPE_B, b"C321", &bytes[..16], text);
+        }
+        ScheduleAnswer::Written(status) => {
+            return put_status_and_bytes(b"C322", status, &bytes[..16], text);
+        }
+        ScheduleAnswer::Enabled(status, program, enable) => {
+            return put_schedule_enable_reply(status, program, enable, text);
+        }
+    }
+}
+
+// C315, status, the program and the enable.
+fn put_schedule_enable_reply(
+    status: Status,
+    program: u8,
+    enable: u8,
+    text: &mut [u8; 62],
+) -> Written
+    ensures { λ r. ⌜ Writes typeB (scheduleEnableReplyName ++ (two (statusNumber status) ++ (two program ++ two enable))) r (now (text .entry)) (now (text .exit)) ⌝ }
+{
+    digits::put_bytes(text, 0, b"C315");
+    digits::put_two(text, 4, status.number());
+    digits::put_two(text, 6, program);
+    digits::put_two(text, 8, enable);
+    Written {
+        kind: packet::TYPE_B,
+        length: 10,
     }
 }
 

@@ -2,17 +2,20 @@
 use mathlib.Core.Path.{_≡_, refl, subst}
 use mathlib.Core.Bool.{true, _&&_}
 use mathlib.Core.List.{List, [], _∷_}
-use mathlib.Core.Logic.{inl}
+use mathlib.Core.Logic.{inl, inr}
 use mathlib.Core.Option.{Option, none, some}
 use Prim.Native.Nat.{ℕ, _≤_}
 use native.Mathlib.Omega.{arith}
 use lib.Dec.{eqb}
+use borrow.Author.Tests.{leb-true}
+use Rattle.bitfield.proofs.Laws.{byte-put}
 use lib.ListN.{length, getD}
 use Rattle.plan.specs.Stores.{Entry, applied}
 use Rattle.plan.specs.Inner.{Within, Committable}
 use Rattle.wire.proofs.Tests.{cond-by, both}
-use Rattle.messages.specs.Message.{Request, Reply, IsRequest}
-use Rattle.messages.specs.Message.Request.{getParameter, setParameter, powerRead, powerControl, dateRead, dateWrite, itemRead, tagWrite}
+use Rattle.messages.specs.Message.{ScheduleRequest, Request, Reply, IsRequest}
+use Rattle.messages.specs.Message.ScheduleRequest.{scheduleRead, scheduleWrite, scheduleEnable}
+use Rattle.messages.specs.Message.Request.{getParameter, setParameter, powerRead, powerControl, dateRead, dateWrite, itemRead, tagWrite, schedule}
 use Rattle.messages.specs.Read.{requestIn}
 use Rattle.messages.proofs.ParseLaws.{Found, request-fits}
 use Rattle.messages.specs.declared.message.Date.{Date}
@@ -21,12 +24,17 @@ use Rattle.store.specs.Layout.{power}
 use Rattle.store.specs.Settings.{fieldOf, settingAt, accepts, kept}
 use Rattle.store.specs.Contents.{isOn, isStorable, isAccepted, dateStores, tagStores}
 use Rattle.store.specs.declared.settings.Row.{Row}
-use Rattle.store.proofs.StoreLaws.{SpareKept, isField, field-placed, field-keeps-mark, field-keeps-spare, field-applied, field-few, field-within}
+use Rattle.store.proofs.StoreLaws.{isField, field-placed, field-keeps-mark, field-keeps-rest, field-applied, field-few, field-within}
 use Rattle.store.proofs.SettingLaws.{setting-listed, setting-field, kept-fits}
-use Rattle.store.proofs.DateLaws.{date-keeps-byte, date-keeps-spare, date-applied, date-count, date-within}
+use Rattle.store.proofs.DateLaws.{date-keeps-byte, date-keeps-rest, date-applied, date-count, date-within}
 use Rattle.store.proofs.TagLaws.{tag-count, tag-within, tag-written}
 use Rattle.layouts.specs.Layouts.{inRange}
-use Rattle.layouts.proofs.RangeLaws.{range-write, range-date, range-tag}
+use Rattle.layouts.proofs.RangeLaws.{range-write, range-date, range-tag, range-program, range-enable}
+use Rattle.layouts.proofs.SpareLaws.{SpareKept, spare-same, spare-rest, spare-program, spare-enable}
+use Rattle.schedule.specs.Programs.{programStores, enableStores, enableField}
+use Rattle.schedule.specs.Numbers.{isAccepted as accepts-program, isListed, isEnable, keptFields}
+use Rattle.schedule.proofs.ProgramLaws.{program-applied, program-count, program-within, program-keeps-byte, enable-applied, enable-count, enable-within}
+use Rattle.schedule.proofs.NumberLaws.{accepted-listed, kept-fit, kept-in-range}
 use Rattle.calls.specs.Board.{Identity}
 use Rattle.actions.specs.Act.{
   Effect,
@@ -39,11 +47,19 @@ use Rattle.actions.specs.Act.{
   powerReadEffect,
   powerControlEffect,
   dateWriteEffect,
+  scheduleWriteEffect,
+  scheduleEnableEffect,
+  scheduleEffect,
   effectOf,
   effect,
 }
 
--- ---- a tag that was read has at most 16 bytes
+-- ---- a tag that was read has at most 16 bytes, and a schedule's numbers are 16
+
+abbrev pub SixteenIn : ScheduleRequest → Type 0
+SixteenIn (scheduleRead k) = Unit {0}
+SixteenIn (scheduleWrite numbers) = length numbers ≡ 16
+SixteenIn (scheduleEnable k enable) = Unit {0}
 
 abbrev pub FewIn : Request → Type 0
 FewIn (getParameter page code) = Unit {0}
@@ -54,6 +70,7 @@ FewIn dateRead = Unit {0}
 FewIn (dateWrite d) = Unit {0}
 FewIn (itemRead x) = Unit {0}
 FewIn (tagWrite tag) = length tag ≤ 16
+FewIn (schedule r) = SixteenIn r
 
 abbrev pub Few : Option Request → Type 0
 Few none = Unit {0}
@@ -68,6 +85,9 @@ request-few-in dateRead h = tt
 request-few-in (dateWrite d) h = tt
 request-few-in (itemRead x) h = tt
 request-few-in (tagWrite tag) h = h .few
+request-few-in (schedule (scheduleRead k)) h = tt
+request-few-in (schedule (scheduleWrite numbers)) h = h .sixteen
+request-few-in (schedule (scheduleEnable k enable)) h = tt
 
 option-few : (q : Option Request) → Found IsRequest q → Few q
 option-few none h = tt
@@ -95,7 +115,7 @@ within-head (e ∷ es) w = (omega arith, within-head es (w .1))
 
 module _ (m : List ℕ) (size : length m ≡ 128) (ranged : inRange m ≡ true) where
   none-keeps : Keeps m []
-  none-keeps = record { ready = record { few = omega arith; within = tt }; mark = refl; spare = record { bits = refl; bytes = λ j h. refl }; ranged = ranged }
+  none-keeps = record { ready = record { few = omega arith; within = tt }; mark = refl; spare = spare-same m; ranged = ranged }
 
   -- one field
   field-keeps : (f : Field) (v : ℕ) → isField f ≡ true → fits f v ≡ true → Keeps m (fieldStores m f v)
@@ -105,7 +125,7 @@ module _ (m : List ℕ) (size : length m ≡ 128) (ranged : inRange m ≡ true) 
       record {
         ready = record { few = omega (arith, field-few m f v e); within = field-within m f v e };
         mark = rw is (field-keeps-mark m f v e);
-        spare = rw is (field-keeps-spare m f v e);
+        spare = rw is (spare-rest m _ (field-keeps-rest m f v e));
         ranged = rw is (range-write m size ranged f v e (omega arith) h);
       }
 
@@ -117,7 +137,7 @@ module _ (m : List ℕ) (size : length m ≡ 128) (ranged : inRange m ≡ true) 
       record {
         ready = record { few = omega (arith, date-count m d (omega arith)); within = within-head (dateStores m d) (date-within m d) };
         mark = rw is (date-keeps-byte m d 0 (inl (omega arith)));
-        spare = rw is (date-keeps-spare m d);
+        spare = rw is (spare-rest m _ (date-keeps-rest m d));
         ranged = rw is (range-date m size ranged d storable);
       }
 
@@ -126,9 +146,41 @@ module _ (m : List ℕ) (size : length m ≡ 128) (ranged : inRange m ≡ true) 
       record {
         ready = record { few = omega (arith, tag-count m tag size h); within = tag-within m tag size h };
         mark = tag-written m tag size h .outside 0 (inl (omega arith));
-        spare = tag-written m tag size h .spare;
+        spare = spare-rest m _ (tag-written m tag size h .rest);
         ranged = range-tag m size ranged tag h;
       }
+
+  program-keeps : (numbers : List ℕ) → accepts-program numbers ≡ true → Keeps m (programStores m (getD numbers 0 0) (keptFields numbers))
+  program-keeps numbers h =
+      let k = getD numbers 0 0 in
+      let fs = keptFields numbers in
+      let listed = accepted-listed numbers h in
+      let is = program-applied m k fs in
+      record {
+        ready = record { few = omega (arith, program-count m k fs size listed); within = program-within m k fs listed };
+        mark = rw is (program-keeps-byte m k fs 0 (inl (omega arith)));
+        spare = rw is (spare-program m k fs listed);
+        ranged = rw is (range-program m size ranged k fs listed refl (kept-fit numbers h) (kept-in-range numbers h));
+      }
+
+  enable-keeps : (k enable : ℕ) → (isListed k && isEnable enable) ≡ true → Keeps m (enableStores m k enable)
+  enable-keeps k enable h =
+      let b = both (isListed k) (isEnable enable) h in
+      let listed = leb-true k 6 (b .0) in
+      let is = enable-applied m k enable in
+      record {
+        ready = record { few = omega (arith, enable-count m k enable size (omega arith)); within = enable-within m k enable (omega arith) };
+        mark = rw is (byte-put m (enableField k .at) 1 enable 0 (inr (omega arith)));
+        spare = rw is (spare-enable m k enable (omega arith));
+        ranged = rw is (range-enable m size ranged k enable (omega arith) (leb-true enable 1 (b .1)));
+      }
+
+  schedule-keeps : (r : ScheduleRequest) → Kept m (scheduleEffect m r)
+  unfolding scheduleEffect scheduleWriteEffect scheduleEnableEffect
+  schedule-keeps (scheduleRead k) = none-keeps
+  schedule-keeps (scheduleWrite numbers) = cond-by (Kept m) (accepts-program numbers) _ _ (λ t. program-keeps numbers t) (λ _. none-keeps)
+  schedule-keeps (scheduleEnable k enable) =
+      cond-by (Kept m) (isListed k && isEnable enable) _ _ (λ t. enable-keeps k enable t) (λ _. none-keeps)
 
   set-keeps : (page code v : ℕ) (q : Option Row) → settingAt page code ≡ q → Kept m (setListed m page code v q)
   set-keeps page code v none e = none-keeps
@@ -151,6 +203,7 @@ module _ (m : List ℕ) (size : length m ≡ 128) (ranged : inRange m ≡ true) 
   request-keeps i (dateWrite d) h = cond-by (Kept m) (isAccepted d) _ _ (λ t. date-keeps d t) (λ _. none-keeps)
   request-keeps i (itemRead x) h = none-keeps
   request-keeps i (tagWrite tag) h = tag-keeps tag h
+  request-keeps i (schedule r) h = schedule-keeps r
 
   pub option-keeps : (i : Identity) (q : Option Request) → Few q → Kept m (effect i m q)
   option-keeps i none h = none-keeps

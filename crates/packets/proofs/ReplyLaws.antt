@@ -15,9 +15,10 @@ use Rattle.wire.specs.Digits.{hexOf}
 use Rattle.wire.proofs.Tests.{cond-by, both}
 use Rattle.wire.proofs.DigitLaws.{hex-length}
 use Rattle.wire.proofs.PacketLaws.{packet-length, size-packet}
-use Rattle.messages.specs.Message.{Request, Reply}
-use Rattle.messages.specs.Message.Request.{getParameter, setParameter, powerRead, powerControl, dateRead, dateWrite, itemRead, tagWrite}
-use Rattle.messages.specs.Text.{dateText, parameterText, itemReplyName, replyType, replyText}
+use Rattle.messages.specs.Message.{ScheduleRequest, Request, Reply}
+use Rattle.messages.specs.Message.ScheduleRequest.{scheduleRead, scheduleWrite, scheduleEnable}
+use Rattle.messages.specs.Message.Request.{getParameter, setParameter, powerRead, powerControl, dateRead, dateWrite, itemRead, tagWrite, schedule}
+use Rattle.messages.specs.Text.{dateText, parameterText, itemReplyName, scheduleReplyText, replyType, replyText}
 use Rattle.messages.specs.Read.{requestIn}
 use Rattle.messages.specs.declared.message.Item.{Item}
 use Rattle.store.specs.Fields.{Field, read}
@@ -28,6 +29,8 @@ use Rattle.store.specs.Settings.{settingAt, accepts}
 use Rattle.store.specs.Contents.{isOn, isAccepted, tagOf, formerTagOf}
 use Rattle.store.specs.declared.settings.Row.{Row}
 use Rattle.store.proofs.StoreLaws.{isField, in-range-one}
+use Rattle.schedule.specs.Numbers.{isAccepted as accepts-program, isListed, isEnable, shownProgram}
+use Rattle.schedule.proofs.NumberLaws.{shown-length}
 use Rattle.calls.specs.Board.{Identity}
 use Rattle.actions.specs.Act.{
   Effect,
@@ -41,12 +44,15 @@ use Rattle.actions.specs.Act.{
   powerReadEffect,
   powerControlEffect,
   dateWriteEffect,
+  scheduleWriteEffect,
+  scheduleEnableEffect,
+  scheduleEffect,
   itemOf,
   effectOf,
   effect,
 }
 use Rattle.packets.specs.Packets.{isIdentity, replyWith, replyFrom}
-use Rattle.packets.proofs.EffectLaws.{FewIn, Few, request-few}
+use Rattle.packets.proofs.EffectLaws.{SixteenIn, FewIn, Few, request-few}
 use Rattle.packets.proofs.IdentityLaws.{Named, named-told}
 
 -- ---- a reply's packet
@@ -101,6 +107,15 @@ module _ (i : Identity) (m : List ℕ) (n : Named i) (ranged : inRange m ≡ tru
   set-fits page code v none = omega arith
   set-fits page code v (some r) = cond-by Fits (isOn m && accepts (r .values) v) _ _ (λ _. omega arith) (λ _. omega arith)
 
+  schedule-fits : (r : ScheduleRequest) → SixteenIn r → Fits (scheduleEffect m r)
+  unfolding scheduleEffect scheduleWriteEffect scheduleEnableEffect replyText scheduleReplyText
+  schedule-fits (scheduleRead k) h =
+      cond-by Fitting (isListed k) _ _ (λ _. omega (arith, hex-length (shownProgram m k), shown-length m k)) (λ _. omega arith)
+  schedule-fits (scheduleWrite numbers) h =
+      cond-by Fits (accepts-program numbers) _ _ (λ _. omega (arith, hex-length numbers)) (λ _. omega (arith, hex-length numbers))
+  schedule-fits (scheduleEnable k enable) h =
+      cond-by Fits (isListed k && isEnable enable) _ _ (λ _. omega arith) (λ _. omega arith)
+
   request-fits : (r : Request) → FewIn r → Fits (effectOf i m r)
   unfolding effectOf getEffect setEffect powerReadEffect powerControlEffect dateWriteEffect replyText parameterText dateText
   request-fits (getParameter page code) h =
@@ -117,6 +132,7 @@ module _ (i : Identity) (m : List ℕ) (n : Named i) (ranged : inRange m ≡ tru
       let l = length-append (itemReplyName x) (hexOf (itemOf i m x)) in
       omega (arith, name-length x, hex-length (itemOf i m x), item-few x)
   request-fits (tagWrite tag) h = omega (arith, hex-length tag)
+  request-fits (schedule r) h = schedule-fits r h
 
   option-fits : (q : Option Request) → Few q → Fits (effect i m q)
   unfolding replyText

@@ -5,17 +5,18 @@ use mathlib.Core.Path.{_≡_, refl, sym, ap, _∙_}
 use Prim.Native.Nat.{ℕ, zero, suc, _-_, _≤_}
 use native.Mathlib.Omega.{arith}
 use lib.ListN.{length, take, drop, replicate}
-use lib.Seq.{take-append-seam}
-use Rattle.wire.specs.Digits.{octetsIn, padded, FindsOctets}
+use Rattle.wire.specs.Digits.{padded, FindsOctets}
 use Rattle.wire.specs.declared.digits.Count.{Count}
 use Rattle.wire.specs.declared.digits.Octets.{Octets}
 use Rattle.messages.specs.Message.{Request, IsRequest, requestBytes}
-use Rattle.messages.specs.Message.Request.{getParameter, setParameter, powerRead, powerControl, dateRead, dateWrite, itemRead, tagWrite}
-use Rattle.messages.specs.Read.{requestIn, powerControlIn, dateIn}
+use Rattle.messages.specs.Message.ScheduleRequest.{scheduleRead, scheduleWrite, scheduleEnable}
+use Rattle.messages.specs.Message.Request.{getParameter, setParameter, powerRead, powerControl, dateRead, dateWrite, itemRead, tagWrite, schedule}
+use Rattle.messages.specs.Read.{requestIn, scheduleWriteIn, numbersIn}
 use Rattle.messages.specs.View.{requestOf, requestCount}
 use Rattle.messages.specs.declared.message.Request as declared
+use Rattle.messages.specs.declared.message.ScheduleRequest as declared-schedule
 use Rattle.messages.proofs.ParseLaws.{Found, request-fits}
-use Rattle.text_fields.proofs.TextLaws.{part-rest}
+use Rattle.text_fields.proofs.TextLaws.{part-rest, found, not-found, sixteen-found}
 use Rattle.parser.specs.View.{parsedWith, parsedCount, bytesAsked, Parses}
 use Rattle.parser.specs.declared.parse.Parsed.{Parsed}
 use Rattle.parser.specs.declared.parse.ParsedRequest.{ParsedRequest}
@@ -34,6 +35,11 @@ no-count (declared.Request.ItemRead i) x told = (refl, sym (ap requestBytes (tol
 no-count (declared.Request.TagWrite zero) x told = (refl, sym (ap requestBytes (told [])))
 no-count (declared.Request.TagWrite (suc n)) x told =
     let e : _≡_ {A = ℕ} 0 (suc (length (take {A = ℕ} n []))) = ap (λ (y : Request). length (requestBytes y)) (told [] ∙ sym (told (0 ∷ []))) in
+    absurd (omega arith)
+no-count (declared.Request.Schedule (declared-schedule.ScheduleRequest.Read program)) x told = (refl, sym (ap requestBytes (told [])))
+no-count (declared.Request.Schedule (declared-schedule.ScheduleRequest.Enable program enable)) x told = (refl, sym (ap requestBytes (told [])))
+no-count (declared.Request.Schedule declared-schedule.ScheduleRequest.Write) x told =
+    let e : _≡_ {A = ℕ} 0 1 = ap (λ (y : Request). length (requestBytes y)) (told [] ∙ sym (told (0 ∷ []))) in
     absurd (omega arith)
 
 abbrev bare : Parsed → ParsedRequest
@@ -55,34 +61,23 @@ module _ (p : Parsed) (o : Option Request) (told : (bytes : List ℕ) → parsed
 pub other : (r : ParsedRequest) (wanted : Option Request) → r ≡ bare Parsed.Other → none ≡ wanted → Parses r wanted
 other r wanted e is = rw (e, ← is) (bare-parses Parsed.Other none (λ bytes. refl))
 
--- ---- the bytes of a tag
+-- ---- the bytes of a tag, and a schedule's numbers
 
-module _ (r : Octets) (n : ℕ) (is : r .count ≡ Count.Value n) where
-  tag-found : (o : Option (List ℕ)) → FindsOctets r o
-      → Parses (record { parsed = Parsed.Request (declared.Request.TagWrite n); bytes = r .bytes }) (Option·map tagWrite o)
-  unfolding padded
-  tag-found none h = absurd (Option·some-ne-none _ (rw is at (h .count)))
-  tag-found (some s) h =
-      let e : n ≡ length s = Option·some-injective _ _ (rw is at (h .count)) in
-      record {
-        request = rw (e, h .bytes) (ap (λ (x : List ℕ). some (tagWrite x)) (take-append-seam s _));
-        count = e;
-        bytes = h .bytes;
-      }
+module _ (r : Octets) where
+  module _ (o : Option (List ℕ)) (told : FindsOctets r o) where
+    pub tag : (n : ℕ) → r .count ≡ Count.Value n
+        → Parses (record { parsed = Parsed.Request (declared.Request.TagWrite n); bytes = r .bytes }) (Option·map tagWrite o)
+    tag n e = let f = found r o told n e in rw (f .whole) (record { request = refl; count = f .count; bytes = f .padding })
 
-  pub tag : (t : List ℕ) → FindsOctets r (octetsIn (take (length t - 4) (drop 4 t)))
-      → (wanted : Option Request) → Option·map tagWrite (octetsIn (drop 4 t)) ≡ wanted
-      → Parses (record { parsed = Parsed.Request (declared.Request.TagWrite n); bytes = r .bytes }) wanted
-  tag t told wanted e = rw (← e) (tag-found (octetsIn (drop 4 t)) (rw part-rest at told))
+    -- no bytes, no request
+    pub no-bytes : (f : List ℕ → Request) → r .count ≡ Count.Bad → none ≡ Option·map f o
+    no-bytes f e = rw (not-found r o told e)
 
--- no bytes, no tag
-pub no-tag : (r : Octets) (t : List ℕ) → FindsOctets r (octetsIn (take (length t - 4) (drop 4 t))) → r .count ≡ Count.Bad
-    → none ≡ Option·map tagWrite (octetsIn (drop 4 t))
-no-tag r t told e = go (octetsIn (drop 4 t)) (rw e at (rw part-rest at told) .count)
-  where
-    go : (o : Option (List ℕ)) → none ≡ Option·map length o → none ≡ Option·map tagWrite o
-    go none q = refl
-    go (some s) q = cc
+  pub schedule-numbers : (t : List ℕ) → FindsOctets r (numbersIn t) → (n : ℕ) → r .count ≡ Count.Value n
+      → Parses (record { parsed = Parsed.Request (declared.Request.Schedule declared-schedule.ScheduleRequest.Write); bytes = r .bytes }) (scheduleWriteIn t)
+  schedule-numbers t told n e =
+      let f = sixteen-found r t told n e in
+      rw (f .whole) (record { request = refl; count = f .count; bytes = f .padding })
 
 -- ---- how many bytes a request counts
 
@@ -96,17 +91,20 @@ few (some dateRead) h = omega arith
 few (some (dateWrite d)) h = omega arith
 few (some (itemRead i)) h = omega arith
 few (some (tagWrite tag)) h = h .few
+few (some (schedule (scheduleRead program))) h = omega arith
+few (some (schedule (scheduleWrite numbers))) h = omega (arith, h .sixteen)
+few (some (schedule (scheduleEnable program enable))) h = omega arith
 
 pub asked-few : (p : ParsedRequest) (kind : ℕ) (t : List ℕ) → Parses p (requestIn kind t) → parsedCount (p .parsed) ≤ 16
 asked-few p kind t h = rw (h .count) (few (requestIn kind t) (request-fits kind t))
 
--- ---- the part of a text behind a name
+-- ---- the part of a text behind a name of n bytes
 
-module _ (t : List ℕ) (p : Parsed) where
-  pub power-control-behind : ((bytes : List ℕ) → parsedWith p bytes ≡ powerControlIn (take (length t - 6) (drop 6 t)))
-      → (bytes : List ℕ) → parsedWith p bytes ≡ powerControlIn (drop 6 t)
-  power-control-behind told bytes = rw (← part-rest 6 t) (told bytes)
+module _ (read : List ℕ → Option Request) (n : ℕ) (t : List ℕ) where
+  pub value-behind : (p : Parsed) → ((bytes : List ℕ) → parsedWith p bytes ≡ read (take (length t - n) (drop n t)))
+      → (bytes : List ℕ) → parsedWith p bytes ≡ read (drop n t)
+  value-behind p told bytes = rw (← part-rest n t) (told bytes)
 
-  pub date-write-behind : ((bytes : List ℕ) → parsedWith p bytes ≡ Option·map dateWrite (dateIn (take (length t - 4) (drop 4 t))))
-      → (bytes : List ℕ) → parsedWith p bytes ≡ Option·map dateWrite (dateIn (drop 4 t))
-  date-write-behind told bytes = rw (← part-rest 4 t) (told bytes)
+  pub bytes-behind : (r : ParsedRequest) (wanted : Option Request) → Parses r (read (take (length t - n) (drop n t))) → read (drop n t) ≡ wanted
+      → Parses r wanted
+  bytes-behind r wanted told e = rw (← e, ← part-rest n t) told

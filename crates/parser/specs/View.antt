@@ -25,7 +25,7 @@ abbrev pub bytesAsked : Option message.Request → List ℕ
 bytesAsked (some r) = message.requestBytes r
 bytesAsked none = []
 
--- the request; how many bytes are counted, and the bytes with zeros behind them: a tag's, or none
+-- the request; how many bytes are counted, and the bytes with zeros behind them: a tag's, a schedule's numbers, or none
 pub record Parses (p : ParsedRequest) (asked : Option message.Request) : Type 0 where
   pub request : parsed p ≡ asked
   pub count : parsedCount (p .parsed) ≡ length (bytesAsked asked)

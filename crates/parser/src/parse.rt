@@ -4,11 +4,13 @@ ghost use mathlib.Core.Option.{Option·map};
 ghost use mathlib.Core.Path.{_≡_};
 ghost use Prim.Native.Nat.{ℕ};
 ghost use lib.ListN.{replicate};
-ghost use Rattle.messages.specs.Message.Request.{dateWrite};
-ghost use Rattle.messages.specs.Read.{requestIn, commandIn, getIn, setIn, powerControlIn, valueCommandIn, dateIn};
+ghost use Rattle.wire.specs.Digits.{octetsIn};
+ghost use Rattle.messages.specs.Message.Request.{dateWrite, tagWrite};
+ghost use Rattle.messages.specs.Read.{requestIn, commandIn, getIn, setIn, powerControlIn, scheduleReadIn, scheduleWriteIn, scheduleEnableIn, valueCommandIn, dateIn};
 ghost use Rattle.parser.specs.View.{parsedWith, Parses};
 use messages::message::Item;
 use messages::message::Request;
+use messages::message::ScheduleRequest;
 use text_fields::DateField;
 use wire::digits;
 use wire::digits::Count;
@@ -22,7 +24,7 @@ pub enum Parsed {
     Other,
 }
 
-// What was parsed, with the bytes of a tag.
+// What was parsed, with the bytes of a tag or a schedule's numbers.
 pub struct ParsedRequest {
     pub parsed: Parsed,
     pub bytes: [u8; 16],
@@ -41,19 +43,13 @@ pub fn parse_request(kind: u8, text: &[u8]) -> ParsedRequest
     if kind != packet::TYPE_A {
         return without_bytes(Parsed::Other);
     }
-    if !text_fields::begins_with(b"F011", text) {
-        return without_bytes(parse_command(text));
+    if text_fields::begins_with(b"F011", text) {
+        return parse_tag_write(&text[4..]);
     }
-    let tag = digits::octets_in(&text[4..]);
-    let counted = tag.count;
-    let Count::Value(count) = counted else {
-        return without_bytes(Parsed::Other);
-    };
-    let bytes = tag.bytes;
-    ParsedRequest {
-        parsed: Parsed::Request(Request::TagWrite(count)),
-        bytes,
+    if text_fields::begins_with(b"C222", text) {
+        return parse_schedule_write(&text[4..]);
     }
+    without_bytes(parse_command(text))
 }
 
 // A request that has no bytes beside it.
@@ -101,7 +97,39 @@ fn parse_set(text: &[u8]) -> Parsed
     Parsed::Request(Request::Set { page, code, value })
 }
 
-// Type A, but for the tag write.
+// The tag behind F011.
+fn parse_tag_write(text: &[u8]) -> ParsedRequest
+    ensures { λ r. ⌜ Parses r (Option·map tagWrite (octetsIn (now (text .entry)))) ⌝ }
+{
+    let tag = digits::octets_in(text);
+    let counted = tag.count;
+    let Count::Value(count) = counted else {
+        return without_bytes(Parsed::Other);
+    };
+    let bytes = tag.bytes;
+    ParsedRequest {
+        parsed: Parsed::Request(Request::TagWrite(count)),
+        bytes,
+    }
+}
+
+// The sixteen numbers behind C222.
+fn parse_schedule_write(text: &[u8]) -> ParsedRequest
+    ensures { λ r. ⌜ Parses r (scheduleWriteIn (now (text .entry))) ⌝ }
+{
+    let numbers = text_fields::numbers_in(text);
+    let counted = numbers.count;
+    let Count::Value(_) = counted else {
+        return without_bytes(Parsed::Other);
+    };
+    let bytes = numbers.bytes;
+    ParsedRequest {
+        parsed: Parsed::Request(Request::Schedule(ScheduleRequest::Write)),
+        bytes,
+    }
+}
+
+// Type A, but for the requests that carry bytes.
 fn parse_command(text: &[u8]) -> Parsed
     ensures { λ r. ⌜ ((bytes : List ℕ) → parsedWith r bytes ≡ commandIn (now (text .entry))) ⌝ }
 {
@@ -126,7 +154,7 @@ fn parse_command(text: &[u8]) -> Parsed
     parse_value_command(text)
 }
 
-// Type A, the requests that carry a value behind their name, but for the tag write.
+// Type A, the requests that carry a value behind their name.
 fn parse_value_command(text: &[u8]) -> Parsed
     ensures { λ r. ⌜ ((bytes : List ℕ) → parsedWith r bytes ≡ valueCommandIn (now (text .entry))) ⌝ }
 {
@@ -135,6 +163,12 @@ fn parse_value_command(text: &[u8]) -> Parsed
     }
     if text_fields::begins_with(b"C212", text) {
         return parse_date_write(&text[4..]);
+    }
+    if text_fields::begins_with(b"C221", text) {
+        return parse_schedule_read(&text[4..]);
+    }
+    if text_fields::begins_with(b"C215", text) {
+        return parse_schedule_enable(&text[4..]);
     }
     Parsed::Other
 }
@@ -160,4 +194,33 @@ fn parse_date_write(text: &[u8]) -> Parsed
         return Parsed::Other;
     };
     Parsed::Request(Request::DateWrite(date))
+}
+
+// The program behind C221.
+fn parse_schedule_read(text: &[u8]) -> Parsed
+    ensures { λ r. ⌜ ((bytes : List ℕ) → parsedWith r bytes ≡ scheduleReadIn (now (text .entry))) ⌝ }
+{
+    if text.len() != 2 {
+        return Parsed::Other;
+    }
+    let Octet::Value(program) = digits::two_at(text, 0) else {
+        return Parsed::Other;
+    };
+    Parsed::Request(Request::Schedule(ScheduleRequest::Read(program)))
+}
+
+// The program and the enable behind C215.
+fn parse_schedule_enable(text: &[u8]) -> Parsed
+    ensures { λ r. ⌜ ((bytes : List ℕ) → parsedWith r bytes ≡ scheduleEnableIn (now (text .entry))) ⌝ }
+{
+    if text.len() != 4 {
+        return Parsed::Other;
+    }
+    let Octet::Value(program) = digits::two_at(text, 0) else {
+        return Parsed::Other;
+    };
+    let Octet::Value(enable) = digits::two_at(text, 2) else {
+        return Parsed::Other;
+    };
+    Parsed::Request(Request::Schedule(ScheduleRequest::Enable(program, enable)))
 }

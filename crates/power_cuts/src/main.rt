@@ -42,6 +42,7 @@ fn play_whole(store: &mut [u8; 128], events: &[u16], lent: &mut [u8], log: &mut 
     requires { ⌜ 130 ≤ length (now log) ⌝ }
 {
     fill_spare(store);
+    fill_program_spare(store);
     let board = after_past(store);
     set_down(store, log);
     let mut reply = [0xA5u8; 64];
@@ -62,14 +63,26 @@ fn play_whole(store: &mut [u8; 128], events: &[u16], lent: &mut [u8], log: &mut 
 
 // Something in each spare byte, as an older use may have left it: the number of its place. So each step of an erase shows there.
 fn fill_spare(store: &mut [u8; 128]) {
-    let mut place: u8 = 44;
+    let mut place: u8 = 79;
     while place < 128 {
         store[place as usize] = place;
         place += 1;
     }
 }
 
-// The board after backlight 100, the tag HOTEL, then the tag SEASIDE, and the erase request without its last byte.
+// And in the six spare bits behind each program.
+fn fill_program_spare(store: &mut [u8; 128]) {
+    store[48] = 0x3F;
+    store[53] = 0x3F;
+    store[58] = 0x3F;
+    store[63] = 0x3F;
+    store[68] = 0x3F;
+    store[73] = 0x3F;
+    store[78] = 0x3F;
+}
+
+// The board after backlight 100, the tag HOTEL, then the tag SEASIDE, program 2 from 07:00 to 23:30 on working days, and the erase request without its last
+// byte.
 fn after_past(store: &mut [u8; 128]) -> Board {
     let mut reply = [0xA5u8; 64];
     let started = board::board::start(store, 1, b"SN-1", b"M");
@@ -77,7 +90,7 @@ fn after_past(store: &mut [u8; 128]) -> Board {
     after_bytes(
         board,
         store,
-        b"\x010A0E0A\x0200100064\x03w\x0D\x010A0A10\x02F011484F54454C\x03\x7F\x0D\x010A0A14\x02F01153454153494445\x03z\x0D\x010A0E0A\x02F0010001\x03\x02",
+        b"\x010A0E0A\x0200100064\x03w\x0D\x010A0A10\x02F011484F54454C\x03\x7F\x0D\x010A0A14\x02F01153454153494445\x03z\x0D\x010A0A26\x02C222020700171E111F060000000000000000\x03r\x0D\x010A0E0A\x02F0010001\x03\x02",
         &mut reply,
     )
 }

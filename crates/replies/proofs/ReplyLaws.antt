@@ -2,14 +2,14 @@
 -- test or a call on the way told. `search ways depth 20`, under `unfolding` of the definition, closes a `return`.
 use mathlib.Core.Bool.{Bool, true, false, cond, not}
 use mathlib.Core.List.{List, []}
-use mathlib.Core.Option.{Option, none, some, bind, Option·map, Option·none-ne-some}
+use mathlib.Core.Option.{Option, none, some, bind, Option·map}
 use mathlib.Core.Path.{_≡_, refl, sym, ap, _∙_}
 use Prim.Native.Nat.{ℕ, _-_, _≤_}
 use native.Mathlib.Omega.{arith}
 use borrow.Author.Tests.{not-true, not-false}
 use lib.ListN.{length, take, drop, replicate, length-take}
-use lib.Seq.{take-nil, take-append-seam}
-use Rattle.wire.specs.Digits.{octet, word, octetsIn, counted, padded, bytesFound, FindsOctets}
+use lib.Seq.{take-nil}
+use Rattle.wire.specs.Digits.{octet, word, padded, FindsOctets}
 use Rattle.wire.specs.declared.digits.Count.{Count}
 use Rattle.wire.specs.declared.digits.Octet.{Octet}
 use Rattle.wire.specs.declared.digits.Word.{Word}
@@ -18,18 +18,18 @@ use Rattle.wire.specs.declared.refusal.Refusal.{Refusal}
 use Rattle.wire.proofs.Tests.{tests}
 use Rattle.messages.specs.Message as message
 use Rattle.messages.specs.View.{statusNumber, modeNumber, replyOf, replyCount}
-use Rattle.messages.specs.Read.{beginsWith, dateIn}
+use Rattle.messages.specs.Read.{beginsWith, dateIn, numbersIn}
 use Rattle.messages.specs.declared.message.Date.{Date}
 use Rattle.messages.specs.declared.message.DateAnswer.{DateAnswer}
-use Rattle.messages.specs.declared.message.Item.{Item}
 use Rattle.messages.specs.declared.message.PowerMode.{PowerMode}
 use Rattle.messages.specs.declared.message.Reply.{Reply}
+use Rattle.messages.specs.declared.message.ScheduleAnswer.{ScheduleAnswer}
 use Rattle.messages.specs.declared.message.Status.{Status}
 use Rattle.text_fields.specs.View.{foundStatus, foundMode, foundDate}
 use Rattle.text_fields.specs.declared.StatusField.{StatusField}
 use Rattle.text_fields.specs.declared.ModeField.{ModeField}
 use Rattle.text_fields.specs.declared.DateField.{DateField}
-use Rattle.text_fields.proofs.TextLaws.{part-rest}
+use Rattle.text_fields.proofs.TextLaws.{part-rest, Found, found, not-found, sixteen-found}
 use Rattle.replies.specs.View.{TextReading, reply, refused, readingWith, orRefused, answerCount, bytesRead, ReadsText}
 use Rattle.replies.specs.declared.read.ReplyOrRefusal.{ReplyOrRefusal}
 use Rattle.replies.specs.declared.read.TextReading as declared
@@ -116,41 +116,22 @@ module _ (f : Date → message.Reply) (z : TextReading) (r : DateField) where
 
 -- ---- bytes that a call found
 
--- the array's first n bytes are all that were found
-record Found (n : ℕ) (bytes : List ℕ) (o : Option (List ℕ)) : Type 0 where
-  whole : o ≡ some (take n bytes)
-  count : n ≡ length (take n bytes)
-  padding : bytes ≡ padded (take n bytes)
-
-padded-start : (s : List ℕ) → take (length s) (padded s) ≡ s
-unfolding padded
-padded-start s = take-append-seam s (drop (length s) (replicate 16 0))
-
-found-bytes : (n : ℕ) (bytes : List ℕ) (o : Option (List ℕ)) → some n ≡ Option·map length o → bytes ≡ padded (bytesFound o) → Found n bytes o
-found-bytes n bytes none e b = absurd (Option·none-ne-some n (sym e))
-found-bytes n bytes (some s) e b =
-    let sized : n ≡ length s = cc in
-    let first : take n bytes ≡ s = rw (sized, b) (padded-start s) in
-    record { whole = rw first; count = rw first sized; padding = rw first b }
-
-no-bytes : (o : Option (List ℕ)) → none ≡ Option·map length o → o ≡ none
-no-bytes none e = refl
-no-bytes (some s) e = absurd (Option·none-ne-some (length s) e)
-
-module _ (r : Octets) (o : Option (List ℕ)) (is : FindsOctets r o) where
-  found : (n : ℕ) → r .count ≡ Count.Value n → Found n (r .bytes) o
-  found n e = found-bytes n (r .bytes) o (sym (ap counted e) ∙ is .count) (is .bytes)
-
-  module _ (f : List ℕ → message.Reply) (z : TextReading) where
+module _ (r : Octets) (f : List ℕ → message.Reply) (z : TextReading) where
+  module _ (o : Option (List ℕ)) (is : FindsOctets r o) where
     pub octets-value : (n : ℕ) → r .count ≡ Count.Value n → z ≡ orRefused (some (f (take n (r .bytes)))) → z ≡ orRefused (Option·map f o)
-    octets-value n e p = rw (found n e .whole) p
+    octets-value n e p = rw (found r o is n e .whole) p
 
     pub octets-bad : r .count ≡ Count.Bad → z ≡ orRefused none → z ≡ orRefused (Option·map f o)
-    octets-bad e p = rw (no-bytes o (sym (ap counted e) ∙ is .count)) p
+    octets-bad e p = rw (not-found r o is e) p
+
+  pub numbers-value : (t : List ℕ) → FindsOctets r (numbersIn t) → (n : ℕ) → r .count ≡ Count.Value n → z ≡ orRefused (some (f (take 16 (r .bytes))))
+      → z ≡ orRefused (Option·map f (numbersIn t))
+  numbers-value t is n e p = rw (sixteen-found r t is n e .whole) p
 
 -- bytes found in the part behind the first n bytes
-pub finds-behind : (r : Octets) (n : ℕ) (t : List ℕ) → FindsOctets r (octetsIn (take (length t - n) (drop n t))) → FindsOctets r (octetsIn (drop n t))
-finds-behind r n t is = rw (← part-rest n t) is
+pub finds-behind : (read : List ℕ → Option (List ℕ)) (r : Octets) (n : ℕ) (t : List ℕ) → FindsOctets r (read (take (length t - n) (drop n t)))
+    → FindsOctets r (read (drop n t))
+finds-behind read r n t is = rw (← part-rest n t) is
 
 -- ---- an answer with its bytes
 
@@ -165,6 +146,9 @@ reply-beside (Reply.Date (DateAnswer.Read d)) bytes = refl
 reply-beside (Reply.Date (DateAnswer.Written o d)) bytes = refl
 reply-beside (Reply.Item i count) bytes = refl
 reply-beside (Reply.TagWritten o count) bytes = refl
+reply-beside (Reply.Schedule ScheduleAnswer.Read) bytes = refl
+reply-beside (Reply.Schedule (ScheduleAnswer.Written o)) bytes = refl
+reply-beside (Reply.Schedule (ScheduleAnswer.Enabled o program enable)) bytes = refl
 
 answer-beside : (a : ReplyOrRefusal) (bytes : List ℕ) → bytesRead (readingWith a bytes) ≡ take (answerCount a) bytes
 answer-beside (ReplyOrRefusal.Reply r) bytes = reply-beside r bytes
@@ -201,14 +185,35 @@ module _ (w : Option message.Reply) (r : declared.TextReading) where
       → ReadsText r (orRefused w)
   refusal e p = without-bytes (ReplyOrRefusal.Refused Refusal.ReplyMessage) e (λ bytes. p)
 
-module _ (w : Option message.Reply) (r : Octets) (o : Option (List ℕ)) (is : FindsOctets r o) (n : ℕ) (e : r .count ≡ Count.Value n) where
-  pub item-read : (i : Item) → reply (message.itemReply i (take n (r .bytes))) ≡ orRefused w
-      → ReadsText (record { answer = ReplyOrRefusal.Reply (Reply.Item i n); bytes = r .bytes }) (orRefused w)
-  item-read i p = let f = found r o is n e in rw (← p) (record { answer = refl; count = f .count; bytes = f .padding })
+-- a reply whose count of bytes was found
+counted-read : (w : Option message.Reply) (n : ℕ) (bytes : List ℕ) (o : Option (List ℕ)) → Found n bytes o
+    → (m : Reply) → replyCount m ≡ n → reply (replyOf m bytes) ≡ orRefused w
+    → ReadsText (record { answer = ReplyOrRefusal.Reply m; bytes = bytes }) (orRefused w)
+counted-read w n bytes o f m counts p =
+    let beside : take n bytes ≡ message.replyBytes (replyOf m bytes) = rw counts at (sym (reply-beside m bytes)) in
+    rw (← p) (record { answer = refl; count = counts ∙ rw beside at (f .count); bytes = rw beside at (f .padding) })
 
-  pub tag-read : (status : Status) → reply (message.tagWriteReply (statusNumber status) (take n (r .bytes))) ≡ orRefused w
-      → ReadsText (record { answer = ReplyOrRefusal.Reply (Reply.TagWritten status n); bytes = r .bytes }) (orRefused w)
-  tag-read status p = let f = found r o is n e in rw (← p) (record { answer = refl; count = f .count; bytes = f .padding })
+module _ (w : Option message.Reply) (r : Octets) (m : Reply) where
+  module _ (o : Option (List ℕ)) (is : FindsOctets r o) (n : ℕ) (e : r .count ≡ Count.Value n) where
+    pub octets-read : replyCount m ≡ n → reply (replyOf m (r .bytes)) ≡ orRefused w
+        → ReadsText (record { answer = ReplyOrRefusal.Reply m; bytes = r .bytes }) (orRefused w)
+    octets-read = counted-read w n (r .bytes) o (found r o is n e) m
+
+  module _ (t : List ℕ) (is : FindsOctets r (numbersIn t)) (n : ℕ) (e : r .count ≡ Count.Value n) where
+    pub numbers-read : replyCount m ≡ 16 → reply (replyOf m (r .bytes)) ≡ orRefused w
+        → ReadsText (record { answer = ReplyOrRefusal.Reply m; bytes = r .bytes }) (orRefused w)
+    numbers-read = counted-read w 16 (r .bytes) (numbersIn t) (sixteen-found r t is n e) m
+
+-- ---- the part of a text behind a name of n bytes
+
+module _ (read : List ℕ → Option message.Reply) (n : ℕ) (t : List ℕ) where
+  pub plain-behind : (a : ReplyOrRefusal) → ((bytes : List ℕ) → readingWith a bytes ≡ orRefused (read (take (length t - n) (drop n t))))
+      → (bytes : List ℕ) → readingWith a bytes ≡ orRefused (read (drop n t))
+  plain-behind a is bytes = rw (← part-rest n t) (is bytes)
+
+  pub bytes-behind : (w : Option message.Reply) (r : declared.TextReading) → ReadsText r (orRefused (read (take (length t - n) (drop n t))))
+      → orRefused (read (drop n t)) ≡ orRefused w → ReadsText r (orRefused w)
+  bytes-behind w r is p = rw (← p, ← part-rest n t) is
 
 -- ---- the steps as lists
 

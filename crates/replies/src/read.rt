@@ -8,12 +8,13 @@ ghost use Rattle.wire.specs.Digits.{octetsIn};
 ghost use mathlib.Core.Bool.{cond};
 ghost use Rattle.messages.specs.Message.Reply.{getReply, setReply, dateReadReply, itemReply};
 ghost use Rattle.messages.specs.View.{statusNumber};
-ghost use Rattle.messages.specs.Read.{replyIn, commandReplyIn, plainReplyIn, valuesIn, parameterIn, powerReadReplyIn, powerControlReplyIn, dateWriteReplyIn, tagWriteReplyIn, dateIn};
+ghost use Rattle.messages.specs.Read.{replyIn, commandReplyIn, plainReplyIn, valuesIn, parameterIn, powerReadReplyIn, powerControlReplyIn, dateWriteReplyIn, tagWriteReplyIn, scheduleReadReplyIn, scheduleWriteReplyIn, scheduleEnableReplyIn, dateIn};
 ghost use Rattle.replies.specs.View.{readingWith, orRefused, ReadsText};
 use messages::message::DateAnswer;
 use messages::message::Item;
 use messages::message::Parameter;
 use messages::message::Reply;
+use messages::message::ScheduleAnswer;
 use messages::message::Status;
 use text_fields::DateField;
 use text_fields::ModeField;
@@ -31,7 +32,7 @@ pub enum ReplyOrRefusal {
     Refused(Refusal),
 }
 
-// What was read, with the bytes of a serial number, a model or a tag.
+// What was read, with the bytes of a serial number, a model or a tag, or a schedule's numbers.
 pub struct TextReading {
     pub answer: ReplyOrRefusal,
     pub bytes: [u8; 16],
@@ -128,6 +129,12 @@ fn read_command_reply(text: &[u8]) -> TextReading
     if text_fields::begins_with(b"F111", text) {
         return read_tag_write_reply(&text[4..]);
     }
+    if text_fields::begins_with(b"C321", text) {
+        return read_schedule_read_reply(&text[4..]);
+    }
+    if text_fields::begins_with(b"C322", text) {
+        return read_schedule_write_reply(&text[4..]);
+    }
     without_bytes(read_plain_reply(text))
 }
 
@@ -143,6 +150,9 @@ fn read_plain_reply(text: &[u8]) -> ReplyOrRefusal
     }
     if text_fields::begins_with(b"C312", text) {
         return read_date_write_reply(&text[4..]);
+    }
+    if text_fields::begins_with(b"C315", text) {
+        return read_schedule_enable_reply(&text[4..]);
     }
     if text_fields::begins_with(b"02", text) {
         return read_power_read_reply(&text[2..]);
@@ -188,6 +198,44 @@ fn read_tag_write_reply(text: &[u8]) -> TextReading
     }
 }
 
+// The sixteen numbers behind C321.
+fn read_schedule_read_reply(text: &[u8]) -> TextReading
+    ensures { λ r. ⌜ ReadsText r (orRefused (scheduleReadReplyIn (now (text .entry)))) ⌝ }
+{
+    let numbers = text_fields::numbers_in(text);
+    let counted = numbers.count;
+    let Count::Value(_) = counted else {
+        return without_bytes(ReplyOrRefusal::Refused(Refusal::ReplyMessage));
+    };
+    let bytes = numbers.bytes;
+    TextReading {
+        answer: ReplyOrRefusal::Reply(Reply::Schedule(ScheduleAnswer::Read)),
+        bytes,
+    }
+}
+
+// Status and the sixteen numbers behind C322.
+fn read_schedule_write_reply(text: &[u8]) -> TextReading
+    ensures { λ r. ⌜ ReadsText r (orRefused (scheduleWriteReplyIn (now (text .entry)))) ⌝ }
+{
+    if text.len() != 34 {
+        return without_bytes(ReplyOrRefusal::Refused(Refusal::ReplyMessage));
+    }
+    let StatusField::Is(status) = text_fields::status_at(text, 0) else {
+        return without_bytes(ReplyOrRefusal::Refused(Refusal::ReplyMessage));
+    };
+    let numbers = text_fields::numbers_in(&text[2..]);
+    let counted = numbers.count;
+    let Count::Value(_) = counted else {
+        return without_bytes(ReplyOrRefusal::Refused(Refusal::ReplyMessage));
+    };
+    let bytes = numbers.bytes;
+    TextReading {
+        answer: ReplyOrRefusal::Reply(Reply::Schedule(ScheduleAnswer::Written(status))),
+        bytes,
+    }
+}
+
 // The date behind C311.
 fn read_date_read_reply(text: &[u8]) -> ReplyOrRefusal
     ensures { λ r. ⌜ ((bytes : List ℕ) → readingWith r bytes ≡ orRefused (Option·map dateReadReply (dateIn (now (text .entry))))) ⌝ }
@@ -212,6 +260,25 @@ fn read_date_write_reply(text: &[u8]) -> ReplyOrRefusal
         return ReplyOrRefusal::Refused(Refusal::ReplyMessage);
     };
     ReplyOrRefusal::Reply(Reply::Date(DateAnswer::Written(status, date)))
+}
+
+// Status, the program and the enable behind C315.
+fn read_schedule_enable_reply(text: &[u8]) -> ReplyOrRefusal
+    ensures { λ r. ⌜ ((bytes : List ℕ) → readingWith r bytes ≡ orRefused (scheduleEnableReplyIn (now (text .entry)))) ⌝ }
+{
+    if text.len() != 6 {
+        return ReplyOrRefusal::Refused(Refusal::ReplyMessage);
+    }
+    let StatusField::Is(status) = text_fields::status_at(text, 0) else {
+        return ReplyOrRefusal::Refused(Refusal::ReplyMessage);
+    };
+    let Octet::Value(program) = digits::two_at(text, 2) else {
+        return ReplyOrRefusal::Refused(Refusal::ReplyMessage);
+    };
+    let Octet::Value(enable) = digits::two_at(text, 4) else {
+        return ReplyOrRefusal::Refused(Refusal::ReplyMessage);
+    };
+    ReplyOrRefusal::Reply(Reply::Schedule(ScheduleAnswer::Enabled(status, program, enable)))
 }
 
 // Status, D6 00 0004 and mode behind 02.

@@ -8,10 +8,12 @@ use lib.Dec.{ltb, leb, eqb}
 use lib.ListN.{length}
 use Rattle.wire.specs.Packet.{leastId, mostId, addressOf, allAddress, leastBuffer, requestPacket, over}
 use Rattle.wire.specs.Refusal.{numberOf}
-use Rattle.messages.specs.Message.{Request}
-use Rattle.messages.specs.Message.Request.{getParameter, setParameter, powerRead, powerControl, dateRead, dateWrite, itemRead, tagWrite}
+use Rattle.messages.specs.Message.{ScheduleRequest, Request}
+use Rattle.messages.specs.Message.ScheduleRequest.{scheduleRead, scheduleWrite, scheduleEnable}
+use Rattle.messages.specs.Message.Request.{getParameter, setParameter, powerRead, powerControl, dateRead, dateWrite, itemRead, tagWrite, schedule}
 use Rattle.messages.specs.Text.{requestType, requestText}
-use Rattle.store.specs.Contents.{isAccepted}
+use Rattle.store.specs.Contents as date
+use Rattle.schedule.specs.Numbers as program
 use Rattle.station.specs.declared.encode.Destination.{Destination}
 use Rattle.station.specs.declared.encode.Encoded.{Encoded}
 
@@ -25,6 +27,12 @@ abbrev pub addressIn : Destination → Option ℕ
 addressIn (Destination.Id n) = cond (leb leastId n && leb n mostId) (some (addressOf n)) none
 addressIn Destination.All = some allAddress
 
+-- programs 0 to 6, sixteen numbers that a schedule write accepts, enable 0 or 1
+abbrev pub isScheduleInRange : ScheduleRequest → Bool
+isScheduleInRange (scheduleRead k) = program.isListed k
+isScheduleInRange (scheduleWrite numbers) = program.isAccepted numbers
+isScheduleInRange (scheduleEnable k enable) = program.isListed k && program.isEnable enable
+
 -- each value in its range: modes 1 and 4, a date that a date write accepts, a tag of at most 16 bytes; Get and Set take any
 abbrev pub isInRange : Request → Bool
 isInRange (getParameter page code) = true
@@ -32,9 +40,10 @@ isInRange (setParameter page code value) = true
 isInRange powerRead = true
 isInRange (powerControl mode) = eqb mode 1 || eqb mode 4
 isInRange dateRead = true
-isInRange (dateWrite d) = isAccepted d
+isInRange (dateWrite d) = date.isAccepted d
 isInRange (itemRead i) = true
 isInRange (tagWrite tag) = leb (length tag) 16
+isInRange (schedule r) = isScheduleInRange r
 
 -- to an address, of a type and a text: 20 where there is no address, 21 where a value is outside its range
 abbrev pub encodingTo : Option ℕ → (inRange : Bool) → ℕ → List ℕ → Encoding

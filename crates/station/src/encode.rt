@@ -1,18 +1,22 @@
 // Requests written as packets into a lent buffer.
+ghost use mathlib.Core.List.{_∷_, _++_};
 ghost use mathlib.Core.Path.{_≡_};
 ghost use Prim.Native.Nat.{_≤_};
-ghost use lib.ListN.{length};
+ghost use lib.ListN.{length, take, replicate};
 ghost use Rattle.messages.specs.Message as message;
 ghost use Rattle.messages.specs.Text.{requestType, requestText};
-ghost use Rattle.messages.specs.View.{requestOf, requestCount};
+ghost use Rattle.messages.specs.View.{requestOf, requestCount, scheduleRequestOf, scheduleRequestCount};
 ghost use Rattle.messages.specs.Inner.{Beside};
-ghost use Rattle.station.specs.Encode.{addressIn, encodingOf, encoding, Encodes};
-ghost use Rattle.station.specs.Inner.{addressAs, TellsRange};
+ghost use Rattle.station.specs.Encode.{addressIn, isScheduleInRange, isInRange, encodingOf, encoding, Encodes};
+ghost use Rattle.station.specs.Inner.{addressAs};
 use messages::message::Date;
 use messages::message::Item;
 use messages::message::Request;
+use messages::message::ScheduleRequest;
 use messages::write;
+use schedule::numbers;
 use store::contents;
+use wire::digits;
 use wire::packet;
 use wire::refusal::Refusal;
 
@@ -94,19 +98,60 @@ pub fn encode_tag_write(dest: Destination, tag: &[u8], out: &mut [u8]) -> Encode
     encode_request(dest, Request::TagWrite(tag.len() as u8), tag, out)
 }
 
+pub fn encode_schedule_read(dest: Destination, program: u8, out: &mut [u8]) -> Encoded
+    ensures { λ r. ⌜ Encodes (encoding (length (now (out .entry))) dest (message.schedule (message.scheduleRead program))) r (now (out .entry)) (now (out .exit)) ⌝ }
+{
+    encode_request(
+        dest,
+        Request::Schedule(ScheduleRequest::Read(program)),
+        b"",
+        out,
+    )
+}
+
+// The seven fields of a program: ON_HOUR, ON_MIN, OFF_HOUR, OFF_MIN, INPUT, WEEK, FL. The eight reserved numbers behind them are sent as zeros.
+pub fn encode_schedule_write(
+    dest: Destination,
+    program: u8,
+    fields: [u8; 7],
+    out: &mut [u8],
+) -> Encoded
+    ensures { λ r. ⌜ Encodes (encoding (length (now (out .entry))) dest (message.schedule (message.scheduleWrite (program ∷ (fields ++ replicate 8 0))))) r (now (out .entry)) (now (out .exit)) ⌝ }
+{
+    let numbers = sent_numbers(program, fields);
+    encode_request(
+        dest,
+        Request::Schedule(ScheduleRequest::Write),
+        &numbers,
+        out,
+    )
+}
+
+// Enable is 1, disable is 0.
+pub fn encode_schedule_enable(dest: Destination, program: u8, enable: u8, out: &mut [u8]) -> Encoded
+    ensures { λ r. ⌜ Encodes (encoding (length (now (out .entry))) dest (message.schedule (message.scheduleEnable program enable))) r (now (out .entry)) (now (out .exit)) ⌝ }
+{
+    encode_request(
+        dest,
+        Request::Schedule(ScheduleRequest::Enable(program, enable)),
+        b"",
+        out,
+    )
+}
+
 // Any request, with its bytes beside it.
 pub fn encode_request(dest: Destination, request: Request, bytes: &[u8], out: &mut [u8]) -> Encoded
     requires { ⌜ Beside (requestCount request) (now bytes) ⌝ }
     ensures { λ r. ⌜ Encodes (encoding (length (now (out .entry))) dest (requestOf request (now (bytes .entry)))) r (now (out .entry)) (now (out .exit)) ⌝ }
 {
-    let in_range = is_in_range(request);
+    let in_range = is_in_range(request, bytes);
     encode(dest, request, bytes, in_range, out)
 }
 
-// Whether the values of a request are in their ranges.
-fn is_in_range(request: Request) -> bool
-    requires { ⌜ requestCount request ≤ 16 ⌝ }
-    ensures { λ r. ⌜ TellsRange r request ⌝ }
+// Whether the values of a request, those beside it included, are in their ranges.
+fn is_in_range(request: Request, bytes: &[u8]) -> bool
+    requires { ⌜ Beside (requestCount request) (now bytes) ⌝ }
+    ensures { λ r. ⌜ r ≡ isInRange (requestOf request (now (bytes .entry))) ⌝ }
 {
     match request {
         Request::PowerControl(mode) => {
@@ -115,10 +160,51 @@ fn is_in_range(request: Request) -> bool
         Request::DateWrite(date) => {
             return contents::is_accepted(date);
         }
+        Request::Schedule(asked) => {
+            return is_schedule_in_range(asked, bytes);
+        }
         _ => {
             return true;
         }
     }
+}
+
+// Programs 0 to 6, numbers that a schedule write accepts, enable 0 or 1.
+fn is_schedule_in_range(request: ScheduleRequest, bytes: &[u8]) -> bool
+    requires { ⌜ Beside (scheduleRequestCount request) (now bytes) ⌝ }
+    ensures { λ r. ⌜ r ≡ isScheduleInRange (scheduleRequestOf request (now (bytes .entry))) ⌝ }
+{
+    match request {
+        ScheduleRequest::Read(program) => {
+            return program <= 6;
+        }
+        ScheduleRequest::Write => {
+            return numbers::is_accepted(first_sixteen(bytes));
+        }
+        ScheduleRequest::Enable(program, enable) => {
+            return (program <= 6) & (enable <= 1);
+        }
+    }
+}
+
+// The first sixteen of some bytes.
+fn first_sixteen(bytes: &[u8]) -> [u8; 16]
+    requires { ⌜ 16 ≤ length (now bytes) ⌝ }
+    ensures { λ r. ⌜ r ≡ take 16 (now (bytes .entry)) ⌝ }
+{
+    let mut first = [0u8; 16];
+    digits::put_bytes(&mut first, 0, &bytes[..16]);
+    first
+}
+
+// The sixteen numbers of a schedule write: the program, its fields and eight zeros.
+fn sent_numbers(program: u8, fields: [u8; 7]) -> [u8; 16]
+    ensures { λ r. ⌜ r ≡ program ∷ (fields ++ replicate 8 0) ⌝ }
+{
+    let mut numbers = [0u8; 16];
+    numbers[0] = program;
+    digits::put_bytes(&mut numbers, 1, &fields);
+    numbers
 }
 
 // Every request: refusals in their order, and the packet. What is not in range is refused whatever the request.

@@ -1,11 +1,13 @@
 -- The encoder and the reader for C refuse a call with the first of its checks that fails: the definitions test in the same order.
-use mathlib.Core.Bool.{Bool, true, false, cond, not, _&&_, _||_}
+use mathlib.Core.Bool.{Bool, true, false, cond, not, _&&_, _||_, and-true}
 use mathlib.Core.List.{List, [], _∷_}
+use mathlib.Core.Logic.{⊎-elim}
 use mathlib.Core.Option.{Option, none, some}
-use mathlib.Core.Path.{_≡_, refl}
+use mathlib.Core.Path.{_≡_, refl, sym}
 use Prim.Native.Nat.{ℕ, _+_, _≤_}
+use native.Mathlib.Nat.{eq-or-lt-of-le}
 use native.Mathlib.Omega.{arith}
-use borrow.Author.Tests.{le-leb, lt-leb, ltb-true, ltb-false, leb-true, eqb-true, not-false}
+use borrow.Author.Tests.{le-leb, lt-leb, ne-eqb, ltb-true, ltb-false, leb-true, eqb-true, eqb-false, not-false}
 use lib.Dec.{ltb, leb, eqb}
 use lib.ListN.{length, getD}
 use Rattle.wire.specs.Digits.{twoAt}
@@ -17,7 +19,11 @@ use Rattle.wire.proofs.Tests.{cond-by, both}
 use Rattle.messages.specs.Message.{Reply}
 use Rattle.messages.specs.Read.{replyIn}
 use Rattle.replies.specs.View.{orRefused}
-use Rattle.store.specs.Contents.{isAccepted, isStorable}
+use Rattle.store.specs.Contents as date
+use Rattle.store.specs.Contents.{isStorable}
+use Rattle.schedule.proofs.TimeLaws.{time-as}
+use Rattle.schedule.specs.Numbers as program
+use Rattle.schedule.specs.Numbers.{areZero}
 use Rattle.station.specs.Encode as encode
 use Rattle.station.specs.Encode.{Encoding, addressIn, isInRange, encodingTo, encodingOf}
 use Rattle.station.specs.Read as read
@@ -27,6 +33,7 @@ use Rattle.station.proofs.ReadWritten.{read-written}
 use Rattle.station.specs.declared.encode.Destination.{Destination}
 use Rattle.station_c.specs.Encode.{Call, encodeGet, encodeSet, encodePowerRead, encodePowerControl, encodeDateRead, encodeDateWrite}
 use Rattle.station_c.specs.Encode.{encodeSerialRead, encodeModelRead, encodeTagRead, encodeFormerTagRead, encodeTagWrite}
+use Rattle.station_c.specs.Encode.{encodeScheduleRead, encodeScheduleWrite, encodeScheduleEnable}
 use Rattle.station_c.specs.Encode.{requestFor, destinationOf, encodingFor}
 use Rattle.station_c.specs.Read.{readInto}
 use Rattle.station_c.specs.Checks.{encodingRefusal, isTaken, encoderChecks, readingRefusal, isItsLength, isSome, readerChecks, sizeBy, Refusals}
@@ -34,7 +41,7 @@ use Rattle.station_c.specs.Checks.{encodingRefusal, isTaken, encoderChec
 -- ---- the encoder
 
 pub taken-as : (c : Call) → isInRange (requestFor c) ≡ isTaken c
-unfolding isAccepted isStorable
+unfolding date.isAccepted isStorable program.isAccepted areZero
 taken-as (encodeGet page code) = refl
 taken-as (encodeSet page code value) = refl
 taken-as encodePowerRead = refl
@@ -47,6 +54,10 @@ taken-as encodeModelRead = refl
 taken-as encodeTagRead = refl
 taken-as encodeFormerTagRead = refl
 taken-as (encodeTagWrite tag) = refl
+taken-as (encodeScheduleRead program) = refl
+taken-as (encodeScheduleWrite program on_hour on_minute off_hour off_minute input week flags) =
+    rw (time-as on_hour on_minute, time-as off_hour off_minute) (and-true _)
+taken-as (encodeScheduleEnable program enable) = refl
 
 -- ALL by its test, an ID by its own
 address-as : (all : Bool) (n : ℕ)

@@ -8,10 +8,13 @@ use Rattle.wire.specs.Digits.{hexOf, valueOf, twoAt, fourAt, unhex, octetsIn}
 use Rattle.wire.specs.Packet.{xorFrom, packet, over, size, checkCode, packetText}
 use Rattle.wire.specs.Judge.{isLength, endsInReturn, hasCheckCode, isMessage}
 use Rattle.messages.specs.Message.{Reply, replyBytes}
-use Rattle.messages.specs.Text.{dateText, requestType, requestText}
+use Rattle.messages.specs.Text.{dateText, scheduleText, requestType, requestText}
 use Rattle.messages.specs.Read.{beginsWith, isName, flagAt, modeAt, dateIn, parameterIn, powerReadReplyIn, powerControlReplyIn, dateWriteReplyIn}
-use Rattle.messages.specs.Read.{tagWriteReplyIn, plainReplyIn, commandReplyIn, replyIn}
-use Rattle.store.specs.Contents.{isStorable, isAccepted}
+use Rattle.messages.specs.Read.{tagWriteReplyIn, numbersIn, scheduleWriteReplyIn, scheduleEnableReplyIn, plainReplyIn, commandReplyIn, replyIn}
+use Rattle.store.specs.Contents as date
+use Rattle.store.specs.Contents.{isStorable}
+use Rattle.schedule.specs.Numbers as program
+use Rattle.schedule.specs.Numbers.{areZero}
 use Rattle.station.specs.Encode as encode
 use Rattle.station.specs.Encode.{Encoding, sends, encodingOf}
 use Rattle.station.specs.Read as read
@@ -42,23 +45,30 @@ _and_ : {A B : Type 0} → A → B → A × B
 a and b = (a, b)
 
 pub worked-hold : AllHold worked
-unfolding AllHold destinationOf encodingOf isAccepted isStorable requestType requestText dateText hexOf packet xorFrom
-    readInto readPacket replyVerdict isReplyHeader isWholeLength isLength size endsInReturn hasCheckCode checkCode
+unfolding AllHold destinationOf encodingOf date.isAccepted isStorable program.isAccepted areZero requestType requestText dateText scheduleText
+    hexOf packet xorFrom readInto readPacket replyVerdict isReplyHeader isWholeLength isLength size endsInReturn hasCheckCode checkCode
     replyInMessage isMessage packetText twoAt fourAt valueOf beginsWith isName flagAt modeAt bind dateIn octetsIn unhex
-    replyIn parameterIn commandReplyIn tagWriteReplyIn plainReplyIn dateWriteReplyIn powerReadReplyIn powerControlReplyIn replySize
+    replyIn parameterIn commandReplyIn tagWriteReplyIn plainReplyIn dateWriteReplyIn powerReadReplyIn powerControlReplyIn
+    numbersIn scheduleWriteReplyIn scheduleEnableReplyIn replySize
 worked-hold =
+    sent refl and sent refl and sent refl and sent refl and sent refl and sent refl and sent refl and sent refl and
     sent refl and sent refl and sent refl and sent refl and sent refl and sent refl and sent refl and sent refl and
     sent refl and sent refl and sent refl and sent refl and unsent refl and unsent refl and unsent refl and unsent refl and
     unsent refl and unsent refl and unsent refl and unsent refl and unsent refl and unsent refl and unsent refl and unsent refl and
-    unsent refl and unsent refl and unsent refl and unsent refl and unsent refl and unsent refl and told refl and told refl and
+    unsent refl and unsent refl and unsent refl and unsent refl and unsent refl and unsent refl and unsent refl and unsent refl and
+    unsent refl and unsent refl and unsent refl and unsent refl and unsent refl and unsent refl and unsent refl and unsent refl and
+    unsent refl and unsent refl and unsent refl and unsent refl and unsent refl and unsent refl and unsent refl and unsent refl and
+    unsent refl and unsent refl and told refl and told refl and told refl and told refl and told refl and told refl and
     told refl and told refl and told refl and told refl and told refl and told refl and told refl and told refl and
     told refl and told refl and told refl and told refl and told refl and told refl and told refl and told refl and
+    told refl and told refl and untold refl and untold refl and untold refl and untold refl and untold refl and untold refl and
     untold refl and untold refl and untold refl and untold refl and untold refl and untold refl and untold refl and untold refl and
     untold refl and untold refl and untold refl and untold refl and untold refl and untold refl and untold refl and untold refl and
     untold refl and untold refl and untold refl and untold refl and untold refl and untold refl and untold refl and untold refl and
     untold refl and untold refl and untold refl and untold refl and untold refl and untold refl and untold refl and untold refl and
     untold refl and untold refl and untold refl and untold refl and untold refl and untold refl and untold refl and untold refl and
     untold refl and untold refl and untold refl and untold refl and untold refl and untold refl and untold refl and untold refl and
-    untold refl and untold refl and refl and refl and refl and refl and refl and refl and
-    refl and refl and refl and refl and refl and refl and refl and
+    untold refl and untold refl and untold refl and untold refl and refl and refl and refl and refl and
+    refl and refl and refl and refl and refl and refl and refl and refl and
+    refl and
     tt

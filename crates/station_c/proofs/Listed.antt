@@ -6,7 +6,8 @@ use Prim.Native.Nat.{ℕ, _+_}
 use lib.Dec.{eqb}
 use lib.ListN.{getD}
 use Rattle.messages.specs.Message.{Reply, replyBytes}
-use Rattle.messages.specs.Message.Reply.{null, getReply, setReply, powerReadReply, powerControlReply, dateReadReply, dateWriteReply, itemReply, tagWriteReply}
+use Rattle.messages.specs.Message.ScheduleReply.{scheduleReadReply, scheduleWriteReply, scheduleEnableReply}
+use Rattle.messages.specs.Message.Reply.{null, getReply, setReply, powerReadReply, powerControlReply, dateReadReply, dateWriteReply, itemReply, tagWriteReply, scheduleReply}
 use Rattle.messages.specs.declared.message.Date.{Date}
 use Rattle.messages.specs.declared.message.Item.{Item}
 use Rattle.station_c.specs.Read.{replyKind, numbersOf}
@@ -42,7 +43,11 @@ module _ (numbers bytes : List ℕ) where
       (cond (eqb kind 108) (itemReply Item.Serial bytes)
       (cond (eqb kind 109) (itemReply Item.Model bytes)
       (cond (eqb kind 110) (itemReply Item.Tag bytes)
-      (cond (eqb kind 111) (itemReply Item.FormerTag bytes) (tagWriteReply (getD numbers 0 0) bytes)))))))))))
+      (cond (eqb kind 111) (itemReply Item.FormerTag bytes)
+      (cond (eqb kind 112) (tagWriteReply (getD numbers 0 0) bytes)
+      (cond (eqb kind 113) (scheduleReply (scheduleReadReply bytes))
+      (cond (eqb kind 114) (scheduleReply (scheduleWriteReply (getD numbers 0 0) bytes))
+      (scheduleReply (scheduleEnableReply (getD numbers 0 0) (getD numbers 1 0) (getD numbers 2 0))))))))))))))))
 
 listed-again : (x : Reply) → listed (numbersOf x) (replyBytes x) (replyKind x) ≡ x
 listed-again null = refl
@@ -57,6 +62,9 @@ listed-again (itemReply Item.Model bytes) = refl
 listed-again (itemReply Item.Tag bytes) = refl
 listed-again (itemReply Item.FormerTag bytes) = refl
 listed-again (tagWriteReply status tag) = refl
+listed-again (scheduleReply (scheduleReadReply numbers)) = refl
+listed-again (scheduleReply (scheduleWriteReply status numbers)) = refl
+listed-again (scheduleReply (scheduleEnableReply status program enable)) = refl
 
 pub listed-back : (x y : Reply) → replyKind x ≡ replyKind y → numbersOf x ≡ numbersOf y → replyBytes x ≡ replyBytes y → x ≡ y
 listed-back x y kind numbers bytes =

@@ -19,6 +19,7 @@ use Rattle.station.specs.Read as read
 use Rattle.station.specs.Read.{replySize}
 use Rattle.station_c.specs.Encode.{Call, encodeGet, encodeSet, encodePowerRead, encodePowerControl, encodeDateRead, encodeDateWrite}
 use Rattle.station_c.specs.Encode.{encodeSerialRead, encodeModelRead, encodeTagRead, encodeFormerTagRead, encodeTagWrite, encodingFor}
+use Rattle.station_c.specs.Encode.{encodeScheduleRead, encodeScheduleWrite, encodeScheduleEnable}
 use Rattle.station_c.specs.Read.{readInto}
 
 -- ---- the encoder
@@ -31,7 +32,11 @@ encodingRefusal (encode.refused n) = some n
 abbrev pub isDestination : ℕ → Bool
 isDestination n = (leb 1 n && leb n 8) || eqb n 256
 
--- modes 1 and 4, dates in their ranges, tags of at most 16 bytes; any page, code and value
+-- hours to 24 and minutes to 60, where 24 and 60 come together
+abbrev pub isOnOff : ℕ → ℕ → Bool
+isOnOff hour minute = leb hour 24 && leb minute 60 && cond (eqb hour 24) (eqb minute 60) (not (eqb minute 60))
+
+-- modes 1 and 4, dates in their ranges, tags of at most 16 bytes, programs 0 to 6 with what they may hold, enable 0 or 1; any page, code and value
 abbrev pub isTaken : Call → Bool
 isTaken (encodeGet page code) = true
 isTaken (encodeSet page code value) = true
@@ -45,6 +50,11 @@ isTaken encodeModelRead = true
 isTaken encodeTagRead = true
 isTaken encodeFormerTagRead = true
 isTaken (encodeTagWrite tag) = leb (length tag) 16
+isTaken (encodeScheduleRead program) = leb program 6
+isTaken (encodeScheduleWrite program on_hour on_minute off_hour off_minute input week flags) =
+    leb program 6 && isOnOff on_hour on_minute && isOnOff off_hour off_minute
+    && (eqb input 0 || (eqb input 1 || (eqb input 3 || eqb input 17))) && leb week 127 && leb flags 7
+isTaken (encodeScheduleEnable program enable) = leb program 6 && leb enable 1
 
 -- the lent buffer, the destination, the values
 unfoldable pub encoderChecks : ℕ → ℕ → Call → List Check

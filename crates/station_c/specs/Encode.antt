@@ -1,12 +1,13 @@
 -- The encoder for C (docs/RULES.md, 'Station', XC1): what it takes and gives as numbers.
 use mathlib.Core.Bool.{cond}
-use mathlib.Core.List.{List}
+use mathlib.Core.List.{List, _∷_}
 use mathlib.Core.Path.{_≡_}
 use Prim.Native.Nat.{ℕ}
 use lib.Dec.{eqb}
-use lib.ListN.{length}
+use lib.ListN.{length, replicate}
 use Rattle.messages.specs.Message.{Request}
-use Rattle.messages.specs.Message.Request.{getParameter, setParameter, powerRead, powerControl, dateRead, dateWrite, itemRead, tagWrite}
+use Rattle.messages.specs.Message.ScheduleRequest.{scheduleRead, scheduleWrite, scheduleEnable}
+use Rattle.messages.specs.Message.Request.{getParameter, setParameter, powerRead, powerControl, dateRead, dateWrite, itemRead, tagWrite, schedule}
 use Rattle.messages.specs.declared.message.Item.{Item}
 use Rattle.station.specs.Encode.{Encoding, sends, refused, encoding, bufferAs}
 use Rattle.station.specs.declared.encode.Destination.{Destination}
@@ -28,6 +29,9 @@ pub data Call : Type 0 where
   encodeTagRead : Call
   encodeFormerTagRead : Call
   encodeTagWrite : (tag : List ℕ) → Call
+  encodeScheduleRead : (program : ℕ) → Call
+  encodeScheduleWrite : (program on_hour on_minute off_hour off_minute input week flags : ℕ) → Call
+  encodeScheduleEnable : (program enable : ℕ) → Call
 
 -- the request that a call encodes
 abbrev pub requestFor : Call → Request
@@ -43,6 +47,10 @@ requestFor encodeModelRead = itemRead Item.Model
 requestFor encodeTagRead = itemRead Item.Tag
 requestFor encodeFormerTagRead = itemRead Item.FormerTag
 requestFor (encodeTagWrite tag) = tagWrite tag
+requestFor (encodeScheduleRead program) = schedule (scheduleRead program)
+requestFor (encodeScheduleWrite program on_hour on_minute off_hour off_minute input week flags) =
+    schedule (scheduleWrite (program ∷ on_hour ∷ on_minute ∷ off_hour ∷ off_minute ∷ input ∷ week ∷ flags ∷ replicate 8 0))
+requestFor (encodeScheduleEnable program enable) = schedule (scheduleEnable program enable)
 
 -- what a call gives, with so much room in the lent buffer and a destination as a number
 abbrev pub encodingFor : ℕ → ℕ → Call → Encoding

@@ -6,8 +6,9 @@ use Prim.Native.Nat.{ℕ}
 use lib.Dec.{ltb}
 use lib.ListN.{length}
 use Rattle.wire.specs.Packet.{over}
-use Rattle.messages.specs.Message.{Reply, replyBytes}
-use Rattle.messages.specs.Message.Reply.{null, getReply, setReply, powerReadReply, powerControlReply, dateReadReply, dateWriteReply, itemReply, tagWriteReply}
+use Rattle.messages.specs.Message.{ScheduleReply, Reply, replyBytes}
+use Rattle.messages.specs.Message.ScheduleReply.{scheduleReadReply, scheduleWriteReply, scheduleEnableReply}
+use Rattle.messages.specs.Message.Reply.{null, getReply, setReply, powerReadReply, powerControlReply, dateReadReply, dateWriteReply, itemReply, tagWriteReply, scheduleReply}
 use Rattle.messages.specs.declared.message.Date.{Date}
 use Rattle.messages.specs.declared.message.Item.{Item}
 use Rattle.station.specs.Read.{PacketReading, reply, refused, readPacket}
@@ -19,6 +20,11 @@ itemKind Item.Model = 109
 itemKind Item.Tag = 110
 itemKind Item.FormerTag = 111
 
+abbrev pub scheduleKind : ScheduleReply → ℕ
+scheduleKind (scheduleReadReply numbers) = 113
+scheduleKind (scheduleWriteReply status numbers) = 114
+scheduleKind (scheduleEnableReply status program enable) = 115
+
 abbrev pub replyKind : Reply → ℕ
 replyKind null = 101
 replyKind (getReply result page code operation largest value) = 102
@@ -29,10 +35,17 @@ replyKind (dateReadReply d) = 106
 replyKind (dateWriteReply status d) = 107
 replyKind (itemReply i bytes) = itemKind i
 replyKind (tagWriteReply status tag) = 112
+replyKind (scheduleReply r) = scheduleKind r
 
 -- YY MM DD WW HH MN DS
 abbrev pub dateNumbers : Date → List ℕ
 dateNumbers d = d .year ∷ d .month ∷ d .day ∷ d .weekday ∷ d .hour ∷ d .minute ∷ d .daylight ∷ []
+
+-- the sixteen numbers of a program are told as the reply's bytes
+abbrev pub scheduleNumbers : ScheduleReply → List ℕ
+scheduleNumbers (scheduleReadReply numbers) = []
+scheduleNumbers (scheduleWriteReply status numbers) = status ∷ []
+scheduleNumbers (scheduleEnableReply status program enable) = status ∷ program ∷ enable ∷ []
 
 -- a reply's numbers, in the order of its message
 abbrev pub numbersOf : Reply → List ℕ
@@ -45,6 +58,7 @@ numbersOf (dateReadReply d) = dateNumbers d
 numbersOf (dateWriteReply status d) = status ∷ dateNumbers d
 numbersOf (itemReply i bytes) = []
 numbersOf (tagWriteReply status tag) = status ∷ []
+numbersOf (scheduleReply r) = scheduleNumbers r
 
 -- 10 where a lent slice has no room for the longest reply, 9 numbers or 16 bytes; then what the reader says
 unfoldable pub readInto : ℕ → ℕ → List ℕ → PacketReading

@@ -4,11 +4,12 @@ ghost use lib.ListN.{length};
 ghost use Rattle.messages.specs.View.{requestOf, requestCount};
 ghost use Rattle.messages.specs.Inner.{Beside};
 ghost use Rattle.station.specs.Encode.{encoding};
-ghost use Rattle.station_c.specs.Encode.{destinationOf, encodeGet, encodeSet, encodePowerRead, encodePowerControl, encodeDateRead, encodeDateWrite, encodeSerialRead, encodeModelRead, encodeTagRead, encodeFormerTagRead, encodeTagWrite, encodingFor, EncodesForC};
+ghost use Rattle.station_c.specs.Encode.{destinationOf, encodeGet, encodeSet, encodePowerRead, encodePowerControl, encodeDateRead, encodeDateWrite, encodeSerialRead, encodeModelRead, encodeTagRead, encodeFormerTagRead, encodeTagWrite, encodeScheduleRead, encodeScheduleWrite, encodeScheduleEnable, encodingFor, EncodesForC};
 ghost use Rattle.station_c.specs.Inner.{TellsOf};
 use messages::message::Date;
 use messages::message::Item;
 use messages::message::Request;
+use messages::message::ScheduleRequest;
 use station::encode;
 use station::encode::Destination;
 use station::encode::Encoded;
@@ -131,6 +132,66 @@ pub extern "C" fn station_encode_tag_write(
     ensures { λ r. ⌜ EncodesForC (encodingFor (length (now (out .entry))) dest (encodeTagWrite (now (tag .entry)))) r (now (out .entry)) (now (out .exit)) (now (size .entry)) (now (size .exit)) ⌝ }
 {
     tell(encode::encode_tag_write(destination(dest), tag, out), size)
+}
+
+#[no_mangle]
+pub extern "C" fn station_encode_schedule_read(
+    dest: u16,
+    program: u8,
+    out: &mut [u8],
+    size: &mut usize,
+) -> u8
+    ensures { λ r. ⌜ EncodesForC (encodingFor (length (now (out .entry))) dest (encodeScheduleRead program)) r (now (out .entry)) (now (out .exit)) (now (size .entry)) (now (size .exit)) ⌝ }
+{
+    export(
+        dest,
+        Request::Schedule(ScheduleRequest::Read(program)),
+        b"",
+        out,
+        size,
+    )
+}
+
+#[no_mangle]
+pub extern "C" fn station_encode_schedule_write(
+    dest: u16,
+    program: u8,
+    on_hour: u8,
+    on_minute: u8,
+    off_hour: u8,
+    off_minute: u8,
+    input: u8,
+    week: u8,
+    flags: u8,
+    out: &mut [u8],
+    size: &mut usize,
+) -> u8
+    ensures { λ r. ⌜ EncodesForC (encodingFor (length (now (out .entry))) dest (encodeScheduleWrite program «on_hour» «on_minute» «off_hour» «off_minute» input week flags)) r (now (out .entry)) (now (out .exit)) (now (size .entry)) (now (size .exit)) ⌝ }
+{
+    let fields = [on_hour, on_minute, off_hour, off_minute, input, week, flags];
+    tell(
+        encode::encode_schedule_write(destination(dest), program, fields, out),
+        size,
+    )
+}
+
+#[no_mangle]
+pub extern "C" fn station_encode_schedule_enable(
+    dest: u16,
+    program: u8,
+    enable: u8,
+    out: &mut [u8],
+    size: &mut usize,
+) -> u8
+    ensures { λ r. ⌜ EncodesForC (encodingFor (length (now (out .entry))) dest (encodeScheduleEnable program enable)) r (now (out .entry)) (now (out .exit)) (now (size .entry)) (now (size .exit)) ⌝ }
+{
+    export(
+        dest,
+        Request::Schedule(ScheduleRequest::Enable(program, enable)),
+        b"",
+        out,
+        size,
+    )
 }
 
 // Any request, with its bytes beside it.

@@ -5,6 +5,7 @@ ghost use Prim.Native.Nat.{_≤_};
 ghost use lib.ListN.{length, take};
 ghost use Rattle.wire.specs.Packet.{over};
 ghost use Rattle.messages.specs.View.{statusNumber, dateAnswerOf};
+ghost use Rattle.messages.specs.declared.message.Reply.{Reply};
 ghost use Rattle.station.specs.Read.{replySize};
 ghost use Rattle.station_c.specs.Read.{readInto, ReadsForC, replyKind, itemKind, numbersOf, dateNumbers};
 ghost use Rattle.station_c.specs.Inner.{Lists, listing};
@@ -13,6 +14,7 @@ use messages::message::DateAnswer;
 use messages::message::Item;
 use messages::message::Parameter;
 use messages::message::Reply;
+use messages::message::ScheduleAnswer;
 use messages::message::Status;
 use replies::read::ReplyOrRefusal;
 use station::read;
@@ -96,7 +98,10 @@ fn list_reply(sender: u8, reply: Reply) -> Listed
             return list_bytes(item_kind(item), id, beside);
         }
         Reply::TagWritten(status, beside) => {
-            return list_tag(id, status, beside);
+            return list_written(112, id, status, beside);
+        }
+        Reply::Schedule(answer) => {
+            return list_schedule(id, answer);
         }
     }
 }
@@ -113,13 +118,13 @@ fn list_bytes(kind: u8, id: u16, beside: u8) -> Listed
     }
 }
 
-// The status of a tag write, and so many bytes.
-fn list_tag(id: u16, status: Status, beside: u8) -> Listed
-    ensures { λ r. ⌜ r ≡ listing 112 (id ∷ statusNumber status ∷ []) beside ⌝ }
+// The status of a write, and so many bytes.
+fn list_written(kind: u8, id: u16, status: Status, beside: u8) -> Listed
+    ensures { λ r. ⌜ r ≡ listing kind (id ∷ statusNumber status ∷ []) beside ⌝ }
 {
     let number = status.number() as u16;
     Listed {
-        kind: 112,
+        kind,
         count: 2,
         numbers: [id, number, 0, 0, 0, 0, 0, 0, 0],
         beside,
@@ -194,6 +199,36 @@ fn date_numbers(d: Date) -> [u16; 7]
         d.minute as u16,
         d.daylight as u16,
     ]
+}
+
+// A program's sixteen numbers stand beside the reply as bytes, where it was read or written.
+fn list_schedule(id: u16, answer: ScheduleAnswer) -> Listed
+    ensures { λ r. ⌜ Lists r id (Reply.Schedule answer) ⌝ }
+{
+    match answer {
+        ScheduleAnswer::Read => {
+            return list_bytes(113, id, 16);
+        }
+        ScheduleAnswer::Written(status) => {
+            return list_written(114, id, status, 16);
+        }
+        ScheduleAnswer::Enabled(status, program, enable) => {
+            return list_enabled(id, status, program, enable);
+        }
+    }
+}
+
+// Status, program, enable.
+fn list_enabled(id: u16, status: Status, program: u8, enable: u8) -> Listed
+    ensures { λ r. ⌜ r ≡ listing 115 (id ∷ statusNumber status ∷ program ∷ enable ∷ []) 0 ⌝ }
+{
+    let number = status.number() as u16;
+    Listed {
+        kind: 115,
+        count: 4,
+        numbers: [id, number, program as u16, enable as u16, 0, 0, 0, 0, 0],
+        beside: 0,
+    }
 }
 
 fn item_kind(item: Item) -> u8

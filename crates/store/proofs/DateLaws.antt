@@ -19,7 +19,7 @@ use Rattle.store.specs.Inner.{DateFits}
 use Rattle.store.specs.Contents.{dateOf, isStorable, isAccepted, withDate, dateStores}
 use Rattle.wire.proofs.Tests.{both}
 use Rattle.store.proofs.StoreLaws.{isSame, isAmong, isField, each-one, fits-below, read-write-any, in-range-write}
-use Rattle.store.proofs.StoreLaws.{SpareKept, around-length, around-within, around-applied}
+use Rattle.store.proofs.StoreLaws.{RestKept, around-length, around-within, around-applied}
 
 -- ---- the six writes
 
@@ -95,8 +95,8 @@ date-keeps-byte m d j o =
     let a : Apart 54 30 (8 * j) 8 = ⊎-elim (λ x. inr (omega arith)) (λ x. inl (omega arith)) o in
     date-by (λ u. getD u j 0 ≡ getD m j 0) m d (λ u f v e _ p. byte-put u (f .at) (f .width) v j (date-apart f (8 * j) 8 e a) ∙ p) refl
 
-pub date-keeps-spare : (m : List ℕ) (d : Date) → SpareKept m (withDate m d)
-date-keeps-spare m d =
+pub date-keeps-rest : (m : List ℕ) (d : Date) → RestKept m (withDate m d)
+date-keeps-rest m d =
     record { bits = date-keeps-field m d 94 2 (inl (omega arith)); bytes = λ j h. date-keeps-byte m d j (inr (omega arith)) }
 
 pub in-range-date : (m : List ℕ) (d : Date) → 12 ≤ length m → isStorable d ≡ true → fieldsInRange m ≡ true

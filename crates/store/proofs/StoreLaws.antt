@@ -18,7 +18,7 @@ use Rattle.plan.specs.Inner.{Within}
 use Rattle.plan.proofs.Laws.{applied-copied, range-length, within-range}
 use Rattle.store.specs.Fields.{Field, read, write, fits, bytesAround, fieldStores}
 use Rattle.store.specs.Settings.{settings}
-use Rattle.store.specs.Layout.{fields, fieldsInRange, spareBit, tagPlace, sparePlace}
+use Rattle.store.specs.Layout.{fields, fieldsInRange, spareBit, tagPlace, restPlace}
 use Rattle.store.specs.Inner.{InStore}
 use Rattle.store.specs.declared.settings.Row.{Row}
 use Rattle.store.proofs.Tables.{either, each, each-member, two-members}
@@ -106,7 +106,7 @@ pub record Placed (f : Field) : Type 0 where
   pub past : 8 ≤ f .at
   pub some : 0 < f .width
   pub two : f .at % 8 + f .width ≤ 16
-  pub before : f .at + f .width ≤ 8 * sparePlace
+  pub before : f .at + f .width ≤ 8 * restPlace
   pub wide : f .most < 2 ^ (f .width)
   pub not-spare : Apart (f .at) (f .width) spareBit 2
   pub not-tag : Apart (f .at) (f .width) (8 * tagPlace) 256
@@ -116,7 +116,7 @@ isPlaced f =
     leb 8 (f .at)
     && (ltb 0 (f .width)
     && (leb (f .at % 8 + f .width) 16
-    && (leb (f .at + f .width) (8 * sparePlace)
+    && (leb (f .at + f .width) (8 * restPlace)
     && (ltb (f .most) (2 ^ (f .width)) && (isApart (f .at) (f .width) spareBit 2 && isApart (f .at) (f .width) (8 * tagPlace) 256)))))
 
 pub field-placed : (f : Field) → isField f ≡ true → Placed f
@@ -124,14 +124,14 @@ field-placed f e =
     let a = both (leb 8 (f .at)) _ (each-one isPlaced fields f refl e) in
     let b = both (ltb 0 (f .width)) _ (a .1) in
     let c = both (leb (f .at % 8 + f .width) 16) _ (b .1) in
-    let d = both (leb (f .at + f .width) (8 * sparePlace)) _ (c .1) in
+    let d = both (leb (f .at + f .width) (8 * restPlace)) _ (c .1) in
     let w = both (ltb (f .most) (2 ^ (f .width))) _ (d .1) in
     let s = both (isApart (f .at) (f .width) spareBit 2) _ (w .1) in
     record {
       past = leb-true 8 (f .at) (a .0);
       some = ltb-true 0 (f .width) (b .0);
       two = leb-true (f .at % 8 + f .width) 16 (c .0);
-      before = leb-true (f .at + f .width) (8 * sparePlace) (d .0);
+      before = leb-true (f .at + f .width) (8 * restPlace) (d .0);
       wide = ltb-true (f .most) (2 ^ (f .width)) (w .0);
       not-spare = apart (f .at) (f .width) spareBit 2 (s .0);
       not-tag = apart (f .at) (f .width) (8 * tagPlace) 256 (s .1);
@@ -179,18 +179,18 @@ module _ (m : List ℕ) (f : Field) (v : ℕ) (e : isField f ≡ true) where
   field-keeps-mark = byte-put m (f .at) (f .width) v 0 (inr (field-placed f e .past))
 
   -- the tag and the former tag stay
-  pub field-keeps-tags : (j : ℕ) → tagPlace ≤ j → j < sparePlace → getD (write m f v) j 0 ≡ getD m j 0
+  pub field-keeps-tags : (j : ℕ) → tagPlace ≤ j → j < restPlace → getD (write m f v) j 0 ≡ getD m j 0
   field-keeps-tags j h k =
       byte-put m (f .at) (f .width) v j (⊎-elim (λ a. inl (omega (arith, a, h))) (λ a. inr (omega (arith, a, k))) (field-placed f e .not-tag))
 
--- ---- the two spare bits and the spare bytes
+-- ---- the two spare bits, and the bytes behind the tags
 
-pub record SpareKept (m u : List ℕ) : Type 0 where
+pub record RestKept (m u : List ℕ) : Type 0 where
   pub bits : getField u spareBit 2 ≡ getField m spareBit 2
-  pub bytes : (j : ℕ) → sparePlace ≤ j → getD u j 0 ≡ getD m j 0
+  pub bytes : (j : ℕ) → restPlace ≤ j → getD u j 0 ≡ getD m j 0
 
-pub field-keeps-spare : (m : List ℕ) (f : Field) (v : ℕ) → isField f ≡ true → SpareKept m (write m f v)
-field-keeps-spare m f v e =
+pub field-keeps-rest : (m : List ℕ) (f : Field) (v : ℕ) → isField f ≡ true → RestKept m (write m f v)
+field-keeps-rest m f v e =
     let p = field-placed f e in
     record {
       bits = get-put-other m (f .at) (f .width) v spareBit 2 (p .not-spare);

@@ -19,7 +19,7 @@ use Rattle.store.specs.Layout.{tagLength, formerLength, fieldsInRange}
 use Rattle.store.specs.Contents.{tagOf, formerTagOf, withLengths, tagStores}
 use Rattle.wire.specs.Digits.{padded}
 use Rattle.wire.proofs.DigitLaws.{padded-length}
-use Rattle.store.proofs.StoreLaws.{SpareKept, field-placed, apart-sym, in-range-one, in-range-write, read-bytes, in-range-same}
+use Rattle.store.proofs.StoreLaws.{RestKept, field-placed, apart-sym, in-range-one, in-range-write, read-bytes, in-range-same}
 
 -- the store u is m with the tag written: the tag and zeros, the old tag as the former one, both lengths, and all else as before
 pub record TagWritten (m tag u : List ℕ) : Type 0 where
@@ -29,7 +29,7 @@ pub record TagWritten (m tag u : List ℕ) : Type 0 where
   pub former-bytes : take 16 (drop 28 u) ≡ take 16 (drop 12 m)
   pub former-count : read u formerLength ≡ read m tagLength
   pub fields : (at width : ℕ) → Apart 84 10 at width → Apart 96 256 at width → getField u at width ≡ getField m at width
-  pub spare : SpareKept m u
+  pub rest : RestKept m u
   pub outside : (j : ℕ) → (j < 10) ⊎ (44 ≤ j) → getD u j 0 ≡ getD m j 0
 
 -- ---- what is stored
@@ -176,7 +176,7 @@ module _ (m tag : List ℕ) (size : length m ≡ 128) (short : length tag ≤ 16
             ∙ get-put-other (write m formerLength (read m tagLength)) 84 5 (length tag) 89 5 (inl (omega arith))
             ∙ get-put m 89 5 (read m tagLength) (omega arith) (get-lt m 84 5);
         fields = λ at width a t. not-in-tags at width t ∙ lengths-keep at width a;
-        spare = record { bits = in-head 94 2 (omega arith) ∙ lengths-keep 94 2 (inl (omega arith)); bytes = λ j h. at-other j (inr (omega (arith, h))) };
+        rest = record { bits = in-head 94 2 (omega arith) ∙ lengths-keep 94 2 (inl (omega arith)); bytes = λ j h. at-other j (inr (omega (arith, h))) };
         outside = at-other;
       }
 

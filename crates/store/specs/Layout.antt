@@ -1,5 +1,5 @@
 -- The store (docs/RULES.md, 'Store', ST1 and ST2): 128 bytes. Byte 0 is the mark; bytes 1 to 11 hold 17 fields, packed without gaps, most
--- significant bit first, and two spare bits; then the tag, the former tag and spare bytes.
+-- significant bit first, and two spare bits; then the tag and the former tag. What lies behind them is not said here.
 use mathlib.Core.Bool.{Bool}
 use mathlib.Core.List.{List, [], _∷_, _++_, map}
 use Prim.Native.Nat.{ℕ}
@@ -66,6 +66,6 @@ tagPlace = 12
 abbrev pub formerTagPlace : ℕ
 formerTagPlace = 28
 
--- all bytes from here on
-abbrev pub sparePlace : ℕ
-sparePlace = 44
+-- the first byte behind the tags
+abbrev pub restPlace : ℕ
+restPlace = 44

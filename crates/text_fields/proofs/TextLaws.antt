@@ -1,19 +1,23 @@
--- What a name at the front of a text and a field that was read say of the text and of numbers.
+-- What a name at the front of a text, and a field or bytes that were read, say of the text and of numbers.
 use Prim.Native.Nat.{ℕ, _+_, _-_, _<_, _≤_}
-use mathlib.Core.Bool.{Bool, true, false, cond, not, _&&_, and-false}
+use mathlib.Core.Bool.{Bool, true, false, cond, _&&_, and-false}
 use mathlib.Core.List.{List, [], _∷_}
 use mathlib.Core.Option.{Option, none, some, bind, Option·map, Option·none-ne-some}
-use mathlib.Core.Path.{_≡_, refl, sym, _∙_}
+use mathlib.Core.Path.{_≡_, refl, sym, ap, _∙_}
 use native.Mathlib.Numerals.{add-one}
 use native.Mathlib.Omega.{arith}
-use borrow.Author.Tests.{leb-true, not-false}
+use borrow.Author.Tests.{leb-true}
 use lib.Dec.{leb, eqb}
-use lib.ListN.{length, getD, take, drop, length-drop}
-use lib.Seq.{take-all, drop-cons}
-use Rattle.wire.specs.Digits.{twoAt}
+use lib.ListN.{length, getD, take, drop, replicate, length-drop}
+use lib.Seq.{take-all, take-append-seam, drop-cons}
+use Rattle.wire.specs.Digits.{twoAt, counted, padded, bytesFound, FindsOctets}
+use Rattle.wire.specs.declared.digits.Count.{Count}
+use Rattle.wire.specs.declared.digits.Octets.{Octets}
 use Rattle.wire.proofs.Tests.{cond-by}
-use Rattle.messages.specs.Read.{beginsWith, flagAt}
+use Rattle.messages.specs.Message.{IsNumbers}
+use Rattle.messages.specs.Read.{beginsWith, flagAt, numbersIn}
 use Rattle.messages.specs.declared.message.Date.{Date}
+use Rattle.messages.proofs.ParseLaws.{numbers-found}
 use Rattle.text_fields.specs.View.{foundDate}
 use Rattle.text_fields.specs.declared.DateField.{DateField}
 
@@ -36,12 +40,8 @@ begins-length (a ∷ name) (b ∷ t) e =
     omega arith
 
 -- the same of a call's answer, for the rest behind a name of n bytes
-module _ (n : ℕ) (t : List ℕ) (r : Bool) where
-  pub room-behind : r ≡ true → (name : List ℕ) → r ≡ beginsWith name t → n ≡ length name → n ≤ length t
-  room-behind e name told q = rw q (begins-length name t (sym told ∙ e))
-
-  pub room-behind-not : not r ≡ false → (name : List ℕ) → r ≡ beginsWith name t → n ≡ length name → n ≤ length t
-  room-behind-not e = room-behind (not-false r e)
+pub room-behind : (n : ℕ) (t : List ℕ) (r : Bool) → r ≡ true → (name : List ℕ) → r ≡ beginsWith name t → n ≡ length name → n ≤ length t
+room-behind n t r e name told q = rw q (begins-length name t (sym told ∙ e))
 
 pub begins-short : (name t : List ℕ) → length t < length name → beginsWith name t ≡ false
 unfolding beginsWith
@@ -67,6 +67,44 @@ flag-within (some m) {n} =
 pub flag-below : (t : List ℕ) (at : ℕ) {n : ℕ} → flagAt t at ≡ some n → n ≤ 1
 unfolding flagAt
 flag-below t at = flag-within (twoAt t at)
+
+-- ---- bytes that a call found
+
+-- the array's first n bytes are all that were found
+pub record Found (n : ℕ) (bytes : List ℕ) (o : Option (List ℕ)) : Type 0 where
+  pub whole : o ≡ some (take n bytes)
+  pub count : n ≡ length (take n bytes)
+  pub padding : bytes ≡ padded (take n bytes)
+
+padded-start : (s : List ℕ) → take (length s) (padded s) ≡ s
+unfolding padded
+padded-start s = take-append-seam s (drop (length s) (replicate 16 0))
+
+found-bytes : (n : ℕ) (bytes : List ℕ) (o : Option (List ℕ)) → some n ≡ Option·map length o → bytes ≡ padded (bytesFound o) → Found n bytes o
+found-bytes n bytes none e b = absurd (Option·none-ne-some n (sym e))
+found-bytes n bytes (some s) e b =
+    let sized : n ≡ length s = cc in
+    let first : take n bytes ≡ s = rw (sized, b) (padded-start s) in
+    record { whole = rw first; count = rw first sized; padding = rw first b }
+
+no-bytes : (o : Option (List ℕ)) → none ≡ Option·map length o → o ≡ none
+no-bytes none e = refl
+no-bytes (some s) e = absurd (Option·none-ne-some (length s) e)
+
+module _ (r : Octets) (o : Option (List ℕ)) (told : FindsOctets r o) where
+  pub found : (n : ℕ) → r .count ≡ Count.Value n → Found n (r .bytes) o
+  found n e = found-bytes n (r .bytes) o (sym (ap counted e) ∙ told .count) (told .bytes)
+
+  pub not-found : r .count ≡ Count.Bad → o ≡ none
+  not-found e = no-bytes o (sym (ap counted e) ∙ told .count)
+
+-- a schedule's numbers are sixteen
+pub sixteen-found : (r : Octets) (t : List ℕ) → FindsOctets r (numbersIn t) → (n : ℕ) → r .count ≡ Count.Value n → Found 16 (r .bytes) (numbersIn t)
+sixteen-found r t told n e =
+    let f = found r (numbersIn t) told n e in
+    let are : IsNumbers (take n (r .bytes)) = rw (f .whole) at (numbers-found t) in
+    let sixteen : n ≡ 16 = f .count ∙ are .sixteen in
+    rw sixteen at f
 
 -- ---- a way through the code beside a definition: what a call read
 

@@ -2,15 +2,17 @@
 ghost use mathlib.Core.Path.{_≡_};
 ghost use Prim.Native.Nat.{_+_, _<_};
 ghost use lib.ListN.{length};
-ghost use Rattle.wire.specs.Digits.{octet};
-ghost use Rattle.messages.specs.Read.{beginsWith, isName, flagAt, modeAt, dateIn};
+ghost use Rattle.wire.specs.Digits.{octet, FindsOctets};
+ghost use Rattle.messages.specs.Read.{beginsWith, isName, flagAt, modeAt, dateIn, numbersIn};
 ghost use Rattle.text_fields.specs.Inner.{behindYear};
 ghost use Rattle.text_fields.specs.View.{foundStatus, foundMode, foundDate};
 use messages::message::Date;
 use messages::message::PowerMode;
 use messages::message::Status;
 use wire::digits;
+use wire::digits::Count;
 use wire::digits::Octet;
+use wire::digits::Octets;
 use wire::digits::Word;
 
 pub enum StatusField {
@@ -149,4 +151,17 @@ fn date_of_year(year: u8, text: &[u8]) -> DateField
         minute,
         daylight,
     })
+}
+
+// The sixteen numbers of a schedule, two digits each.
+pub fn numbers_in(text: &[u8]) -> Octets
+    ensures { λ r. ⌜ FindsOctets r (numbersIn (now (text .entry))) ⌝ }
+{
+    if text.len() != 32 {
+        return Octets {
+            count: Count::Bad,
+            bytes: [0u8; 16],
+        };
+    }
+    digits::octets_in(text)
 }

@@ -112,6 +112,16 @@ returns-8 : tie.Need-returns-8
 unfolding effectOf
 returns-8 c = search told
 
+enum-known-request-7 : tie.Need-enum-known-request-7
+enum-known-request-7 c = search needs
+
+schedule-requires : tie.Need-schedule-requires
+schedule-requires c κs = search needs
+
+returns-9 : tie.Need-returns-9
+unfolding effectOf
+returns-9 c = search told
+
 pub decide-request-spec : {M : Type 1} → statement M
 decide-request-spec =
     tie.close
@@ -140,4 +150,7 @@ decide-request-spec =
     returns-7
     enum-known-request-6
     tag-write-requires
-    returns-8)
+    returns-8
+    enum-known-request-7
+    schedule-requires
+    returns-9)

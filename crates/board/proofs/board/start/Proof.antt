@@ -1,6 +1,6 @@
 -- What a start on the store comes to decides whether a board is given.
 use borrow.Author.Needs.{needs}
-use Rattle.board.proofs.CallLaws.{serial-few, model-few, refused-start, ready-start}
+use Rattle.board.proofs.CallLaws.{serial-few, model-few, sized, convertible, committable, refused-start, ready-start}
 use Rattle.board.proofs.board.start.Statement.{statement}
 use Rattle.board.proofs.board.start.Tie as tie
 
@@ -25,6 +25,12 @@ returns c = search refused-start
 enum-known-erase : tie.Need-enum-known-erase
 enum-known-erase c = search needs
 
+converted-requires : tie.Need-converted-requires
+converted-requires c κs = (search sized, λ older. search convertible)
+
+commit-requires : tie.Need-commit-requires
+commit-requires c κs = search committable
+
 ready-requires : tie.Need-ready-requires
 ready-requires c κs = (search serial-few, search model-few)
 
@@ -45,6 +51,8 @@ start-spec =
     same-length
     returns
     enum-known-erase
+    converted-requires
+    commit-requires
     ready-requires
     same-length-2
     returns-2)

@@ -3,12 +3,14 @@ use borrow.Author.Needs.{needs}
 use borrow.Author.Tests.{eq-eqb, ne-eqb, not-true, not-false}
 use mathlib.Core.Bool.{Bool, true, false, not}
 use mathlib.Core.List.{List, []}
-use mathlib.Core.Path.{_≡_, sym}
+use mathlib.Core.Path.{_≡_, sym, _∙_}
 use Prim.Native.Nat.{ℕ}
 use lib.ListN.{length, getD}
 use Rattle.calls.specs.Board.{board, startRefused, pending, idle}
 use Rattle.calls.specs.Calls.{mark, eraseMark}
-use Rattle.layouts.specs.Layouts.{inRange, unusedStore}
+use Rattle.layouts.specs.Layouts.{isLayout}
+use Rattle.layouts.specs.Inner.{dueIn}
+use Rattle.layouts.proofs.ConversionLaws.{due-out, due-in}
 use Rattle.board.specs.Inner.{startState}
 use Rattle.board.proofs.board.start_state.Statement.{statement}
 use Rattle.board.proofs.board.start_state.Tie as tie
@@ -27,26 +29,26 @@ module _ (m : List ℕ) (named : Bool) where
       unfolding mark
       erase-goes-on n = sym (rw (eq-eqb (length m) 128 all, eq-eqb (getD m 0 0) eraseMark e, not-false named n))
 
-    module _ (f : getD m 0 0 ≡ eraseMark → ⊥) where
-      other-mark : (getD m 0 0 ≡ 0 → ⊥) → startRefused 11 ≡ startState m named
-      unfolding mark unusedStore
-      other-mark g = sym (rw (eq-eqb (length m) 128 all, ne-eqb (getD m 0 0) eraseMark f, ne-eqb (getD m 0 0) 0 g))
+    module _ (f : getD m 0 0 ≡ eraseMark → ⊥) {l : Bool} (layout : l ≡ isLayout (getD m 0 0)) where
+      other-mark : not l ≡ true → startRefused 11 ≡ startState m named
+      unfolding mark
+      other-mark g = sym (rw (eq-eqb (length m) 128 all, ne-eqb (getD m 0 0) eraseMark f, ← layout, not-true l g))
 
-      module _ (e : getD m 0 0 ≡ 0) where
+      module _ (e : not l ≡ false) where
         unnamed : not named ≡ true → startRefused 12 ≡ startState m named
-        unfolding mark unusedStore
-        unnamed n = sym (rw (eq-eqb (length m) 128 all, ne-eqb (getD m 0 0) eraseMark f, eq-eqb (getD m 0 0) 0 e, not-true named n))
+        unfolding mark
+        unnamed n = sym (rw (eq-eqb (length m) 128 all, ne-eqb (getD m 0 0) eraseMark f, ← layout, not-false l e, not-true named n))
 
-        module _ (n : not named ≡ false) {r : Bool} (told : r ≡ inRange m) where
-          out-of-range : not r ≡ true → startRefused 12 ≡ startState m named
-          unfolding mark unusedStore
+        module _ (n : not named ≡ false) {r : ℕ} (told : r ≡ dueIn m) where
+          out-of-range : r ≡ 255 → startRefused 12 ≡ startState m named
+          unfolding mark
           out-of-range h =
-              sym (rw (eq-eqb (length m) 128 all, ne-eqb (getD m 0 0) eraseMark f, eq-eqb (getD m 0 0) 0 e, not-false named n, ← told, not-true r h))
+              sym (rw (eq-eqb (length m) 128 all, ne-eqb (getD m 0 0) eraseMark f, ← layout, not-false l e, not-false named n, due-out m (sym told ∙ h)))
 
-          in-range : not r ≡ false → board idle [] ≡ startState m named
-          unfolding mark unusedStore
+          in-range : (r ≡ 255 → ⊥) → board idle [] ≡ startState m named
+          unfolding mark
           in-range h =
-              sym (rw (eq-eqb (length m) 128 all, ne-eqb (getD m 0 0) eraseMark f, eq-eqb (getD m 0 0) 0 e, not-false named n, ← told, not-false r h))
+              sym (rw (eq-eqb (length m) 128 all, ne-eqb (getD m 0 0) eraseMark f, ← layout, not-false l e, not-false named n, due-in m (λ q. h (told ∙ q))))
 
 returns : tie.Need-returns
 returns c = search no-store
@@ -60,14 +62,17 @@ returns-2 c = search erase-unnamed
 returns-3 : tie.Need-returns-3
 returns-3 c = search erase-goes-on
 
+is-layout-requires : tie.Need-is-layout-requires
+is-layout-requires c κs = search needs
+
 returns-4 : tie.Need-returns-4
 returns-4 c = search other-mark
 
 returns-5 : tie.Need-returns-5
 returns-5 c = search unnamed
 
-in-range-requires : tie.Need-in-range-requires
-in-range-requires c κs = search needs
+due-requires : tie.Need-due-requires
+due-requires c κs = search needs
 
 returns-6 : tie.Need-returns-6
 returns-6 c = search out-of-range
@@ -83,8 +88,9 @@ start-state-spec =
     shared-slice-read-mark
     returns-2
     returns-3
+    is-layout-requires
     returns-4
     returns-5
-    in-range-requires
+    due-requires
     returns-6
     returns-7)

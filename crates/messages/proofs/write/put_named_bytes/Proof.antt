@@ -1,5 +1,5 @@
 -- The digits of the bytes go right behind the name.
-use mathlib.Core.List.{List, _++_}
+use mathlib.Core.List.{List, [], _∷_, _++_}
 use mathlib.Core.Path.{_≡_}
 use Prim.Native.Nat.{ℕ, _+_, _*_}
 use native.Mathlib.Omega.{arith}
@@ -10,12 +10,13 @@ use Rattle.wire.specs.Digits.{four, hexOf}
 use Rattle.wire.proofs.DigitLaws.{hex-length}
 use Rattle.messages.specs.Inner.{Writes}
 use Rattle.messages.proofs.WriteLaws.{named-written}
+use Rattle.messages.proofs.WriteLaws.Pasted.{put, done}
 use Rattle.messages.proofs.write.put_named_bytes.Statement.{statement}
 use Rattle.messages.proofs.write.put_named_bytes.Tie as tie
 
 written : (kind : ℕ) (name s o b m : List ℕ) → b ≡ paste m 4 (hexOf s) (length (hexOf s)) → m ≡ paste o 0 name (length name)
     → length name ≡ 4 → Writes kind (name ++ hexOf s) (record { kind = kind; length = 4 + 2 * length s }) o b
-written kind name s o b m e f four = named-written kind (4 + 2 * length s) name (hexOf s) four (omega (arith, hex-length s)) f e
+written kind name s o b m e f four = named-written kind (4 + 2 * length s) name (hexOf s ∷ []) four (omega (arith, hex-length s)) f (put e done)
 
 put-bytes-requires : tie.Need-put-bytes-requires
 put-bytes-requires c κs = search needs

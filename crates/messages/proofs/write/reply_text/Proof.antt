@@ -7,11 +7,12 @@ use lib.ListN.{length, take}
 use Rattle.wire.specs.Digits.{hexOf}
 use Rattle.wire.specs.Packet.{typeB}
 use Rattle.messages.specs.Text.{replyType, replyText, itemReplyName}
-use Rattle.messages.specs.View.{replyOf, dateAnswerOf, replyCount}
+use Rattle.messages.specs.View.{replyOf, dateAnswerOf, replyCount, scheduleAnswerCount}
 use Rattle.messages.specs.Inner.{Beside, Writes}
 use Rattle.messages.specs.declared.message.Date.{Date}
 use Rattle.messages.specs.declared.message.DateAnswer.{DateAnswer}
 use Rattle.messages.specs.declared.message.Item.{Item}
+use Rattle.messages.specs.declared.message.ScheduleAnswer.{ScheduleAnswer}
 use Rattle.messages.specs.declared.message.Status.{Status}
 use Rattle.messages.specs.declared.message.Reply.{Reply}
 use Rattle.messages.specs.declared.write.Written.{Written}
@@ -53,6 +54,9 @@ module _ (r : Reply) (bytes : List ℕ) where
 
     tag-few : length (take n bytes) ≤ 16
     tag-few = part-few {n = n} beside (rw e)
+
+  schedule-beside : (a : ScheduleAnswer) → r ≡ Reply.Schedule a → Beside (replyCount r) bytes → Beside (scheduleAnswerCount a) bytes
+  schedule-beside a e beside = rw e at beside
 
 enum-told : tie.Need-enum-told
 enum-told c = search needs
@@ -140,15 +144,25 @@ enum-known-reply-7 c = search needs
 cast-n-2 : tie.Need-cast-n-2
 cast-n-2 c = search needs
 
-slice-aggregate-put-tag-write-reply : tie.Need-slice-aggregate-put-tag-write-reply
-slice-aggregate-put-tag-write-reply c = search tag-length
+slice-aggregate-put-status-and-bytes : tie.Need-slice-aggregate-put-status-and-bytes
+slice-aggregate-put-status-and-bytes c = search tag-length
 
-put-tag-write-reply-requires : tie.Need-put-tag-write-reply-requires
-put-tag-write-reply-requires c κs = search tag-few
+put-status-and-bytes-requires : tie.Need-put-status-and-bytes-requires
+put-status-and-bytes-requires c κs = search tag-few
 
 returns-8 : tie.Need-returns-8
 unfolding replyType replyText
 returns-8 c = search of-case
+
+enum-known-reply-8 : tie.Need-enum-known-reply-8
+enum-known-reply-8 c = search needs
+
+put-schedule-reply-requires : tie.Need-put-schedule-reply-requires
+put-schedule-reply-requires c κs = search schedule-beside
+
+returns-9 : tie.Need-returns-9
+unfolding replyType replyText
+returns-9 c = search of-case
 
 pub reply-text-spec : {M : Type 1} → statement M
 reply-text-spec =
@@ -181,6 +195,9 @@ reply-text-spec =
     returns-7
     enum-known-reply-7
     cast-n-2
-    slice-aggregate-put-tag-write-reply
-    put-tag-write-reply-requires
-    returns-8)
+    slice-aggregate-put-status-and-bytes
+    put-status-and-bytes-requires
+    returns-8
+    enum-known-reply-8
+    put-schedule-reply-requires
+    returns-9)

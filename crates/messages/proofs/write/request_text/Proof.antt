@@ -6,9 +6,10 @@ use borrow.Author.Needs.{needs}
 use lib.ListN.{length, take}
 use Rattle.wire.specs.Packet.{typeA}
 use Rattle.messages.specs.Text.{requestType, requestText, itemReadName}
-use Rattle.messages.specs.View.{requestOf, requestCount}
+use Rattle.messages.specs.View.{requestOf, requestCount, scheduleRequestCount}
 use Rattle.messages.specs.Inner.{Beside, Writes}
 use Rattle.messages.specs.declared.message.Item.{Item}
+use Rattle.messages.specs.declared.message.ScheduleRequest.{ScheduleRequest}
 use Rattle.messages.specs.declared.message.Request.{Request}
 use Rattle.messages.specs.declared.write.Written.{Written}
 use Rattle.messages.proofs.WriteLaws.{part-length, part-few}
@@ -32,6 +33,9 @@ module _ (r : Request) (bytes : List ℕ) where
 
     tag-few : length (take n bytes) ≤ 16
     tag-few = part-few {n = n} beside (rw e)
+
+  schedule-beside : (a : ScheduleRequest) → r ≡ Request.Schedule a → Beside (requestCount r) bytes → Beside (scheduleRequestCount a) bytes
+  schedule-beside a e beside = rw e at beside
 
 enum-known-request : tie.Need-enum-known-request
 enum-known-request c = search needs
@@ -130,6 +134,16 @@ returns-8 : tie.Need-returns-8
 unfolding requestType requestText
 returns-8 c = search of-case
 
+enum-known-request-7 : tie.Need-enum-known-request-7
+enum-known-request-7 c = search needs
+
+put-schedule-requires : tie.Need-put-schedule-requires
+put-schedule-requires c κs = search schedule-beside
+
+returns-9 : tie.Need-returns-9
+unfolding requestType requestText
+returns-9 c = search of-case
+
 pub request-text-spec : {M : Type 1} → statement M
 request-text-spec =
     tie.close
@@ -163,4 +177,7 @@ request-text-spec =
     cast-n
     slice-aggregate-put-named-bytes
     put-named-bytes-requires
-    returns-8)
+    returns-8
+    enum-known-request-7
+    put-schedule-requires
+    returns-9)

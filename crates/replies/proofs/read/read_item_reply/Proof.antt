@@ -1,6 +1,6 @@
 -- What `octets_in` tells is what the definition takes.
 use borrow.Author.Needs.{needs}
-use Rattle.replies.proofs.ReplyLaws.{octets-value, octets-bad, item-read, refusal}
+use Rattle.replies.proofs.ReplyLaws.{octets-value, octets-bad, octets-read, refusal}
 use Rattle.replies.proofs.read.read_item_reply.Statement.{statement}
 use Rattle.replies.proofs.read.read_item_reply.Tie as tie
 
@@ -20,7 +20,7 @@ returns : tie.Need-returns
 returns c = search (refusal, octets-bad)
 
 returns-2 : tie.Need-returns-2
-returns-2 c = search (item-read, octets-value)
+returns-2 c = search (octets-read, octets-value)
 
 pub read-item-reply-spec : {M : Type 1} → statement M
 read-item-reply-spec =

@@ -1,31 +1,12 @@
 -- The names one after the other, as in the definition; a text that begins with a name is long enough to have a rest.
-use mathlib.Core.List.{List}
 use mathlib.Core.Option.{Option·map}
-use mathlib.Core.Path.{_≡_}
-use Prim.Native.Nat.{ℕ, _-_}
 use borrow.Author.Needs.{needs}
-use lib.ListN.{length, take, drop}
 use Rattle.messages.specs.Message.Reply.{dateReadReply}
-use Rattle.messages.specs.Read.{dateIn, dateWriteReplyIn, powerReadReplyIn, plainReplyIn}
-use Rattle.text_fields.proofs.TextLaws.{part-rest, room-behind}
-use Rattle.replies.specs.View.{readingWith, orRefused}
-use Rattle.replies.specs.declared.read.ReplyOrRefusal.{ReplyOrRefusal}
-use Rattle.replies.proofs.ReplyLaws.{told}
+use Rattle.messages.specs.Read.{dateIn, dateWriteReplyIn, scheduleEnableReplyIn, powerReadReplyIn, plainReplyIn}
+use Rattle.text_fields.proofs.TextLaws.{room-behind}
+use Rattle.replies.proofs.ReplyLaws.{told, plain-behind}
 use Rattle.replies.proofs.read.read_plain_reply.Statement.{statement}
 use Rattle.replies.proofs.read.read_plain_reply.Tie as tie
-
-module _ (t : List ℕ) (a : ReplyOrRefusal) where
-  date-read-behind : ((bytes : List ℕ) → readingWith a bytes ≡ orRefused (Option·map dateReadReply (dateIn (take (length t - 4) (drop 4 t)))))
-      → (bytes : List ℕ) → readingWith a bytes ≡ orRefused (Option·map dateReadReply (dateIn (drop 4 t)))
-  date-read-behind is bytes = rw (← part-rest 4 t) (is bytes)
-
-  date-write-behind : ((bytes : List ℕ) → readingWith a bytes ≡ orRefused (dateWriteReplyIn (take (length t - 4) (drop 4 t))))
-      → (bytes : List ℕ) → readingWith a bytes ≡ orRefused (dateWriteReplyIn (drop 4 t))
-  date-write-behind is bytes = rw (← part-rest 4 t) (is bytes)
-
-  power-read-behind : ((bytes : List ℕ) → readingWith a bytes ≡ orRefused (powerReadReplyIn (take (length t - 2) (drop 2 t))))
-      → (bytes : List ℕ) → readingWith a bytes ≡ orRefused (powerReadReplyIn (drop 2 t))
-  power-read-behind is bytes = rw (← part-rest 2 t) (is bytes)
 
 slice-aggregate-is-name : tie.Need-slice-aggregate-is-name
 slice-aggregate-is-name c = search needs
@@ -57,7 +38,7 @@ read-date-read-reply-requires c κs = search needs
 
 returns-2 : tie.Need-returns-2
 unfolding plainReplyIn
-returns-2 c bytes = search (told, date-read-behind) depth 20
+returns-2 c bytes = search (told, plain-behind (λ s. Option·map dateReadReply (dateIn s))) depth 20
 
 slice-aggregate-begins-with-2 : tie.Need-slice-aggregate-begins-with-2
 slice-aggregate-begins-with-2 c = search needs
@@ -79,13 +60,35 @@ read-date-write-reply-requires c κs = search needs
 
 returns-3 : tie.Need-returns-3
 unfolding plainReplyIn
-returns-3 c bytes = search (told, date-write-behind) depth 20
+returns-3 c bytes = search (told, plain-behind dateWriteReplyIn) depth 20
 
 slice-aggregate-begins-with-3 : tie.Need-slice-aggregate-begins-with-3
 slice-aggregate-begins-with-3 c = search needs
 
 begins-with-requires-3 : tie.Need-begins-with-requires-3
 begins-with-requires-3 c κs = search needs
+
+sub-read-schedule-enable-reply : tie.Need-sub-read-schedule-enable-reply
+sub-read-schedule-enable-reply c = search room-behind
+
+part-read-schedule-enable-reply-start : tie.Need-part-read-schedule-enable-reply-start
+part-read-schedule-enable-reply-start c = search room-behind
+
+part-read-schedule-enable-reply-end : tie.Need-part-read-schedule-enable-reply-end
+part-read-schedule-enable-reply-end c = search needs
+
+read-schedule-enable-reply-requires : tie.Need-read-schedule-enable-reply-requires
+read-schedule-enable-reply-requires c κs = search needs
+
+returns-4 : tie.Need-returns-4
+unfolding plainReplyIn
+returns-4 c bytes = search (told, plain-behind scheduleEnableReplyIn) depth 20
+
+slice-aggregate-begins-with-4 : tie.Need-slice-aggregate-begins-with-4
+slice-aggregate-begins-with-4 c = search needs
+
+begins-with-requires-4 : tie.Need-begins-with-requires-4
+begins-with-requires-4 c κs = search needs
 
 sub-read-power-read-reply : tie.Need-sub-read-power-read-reply
 sub-read-power-read-reply c = search room-behind
@@ -99,16 +102,16 @@ part-read-power-read-reply-end c = search needs
 read-power-read-reply-requires : tie.Need-read-power-read-reply-requires
 read-power-read-reply-requires c κs = search needs
 
-returns-4 : tie.Need-returns-4
+returns-5 : tie.Need-returns-5
 unfolding plainReplyIn
-returns-4 c bytes = search (told, power-read-behind) depth 20
+returns-5 c bytes = search (told, plain-behind powerReadReplyIn) depth 20
 
 read-power-control-reply-requires : tie.Need-read-power-control-reply-requires
 read-power-control-reply-requires c κs = search needs
 
-returns-5 : tie.Need-returns-5
+returns-6 : tie.Need-returns-6
 unfolding plainReplyIn
-returns-5 c bytes = search (told, c .read-power-control-reply .ensures) depth 20
+returns-6 c bytes = search (told, c .read-power-control-reply .ensures) depth 20
 
 pub read-plain-reply-spec : {M : Type 1} → statement M
 read-plain-reply-spec =
@@ -133,10 +136,17 @@ read-plain-reply-spec =
     returns-3
     slice-aggregate-begins-with-3
     begins-with-requires-3
+    sub-read-schedule-enable-reply
+    part-read-schedule-enable-reply-start
+    part-read-schedule-enable-reply-end
+    read-schedule-enable-reply-requires
+    returns-4
+    slice-aggregate-begins-with-4
+    begins-with-requires-4
     sub-read-power-read-reply
     part-read-power-read-reply-start
     part-read-power-read-reply-end
     read-power-read-reply-requires
-    returns-4
+    returns-5
     read-power-control-reply-requires
-    returns-5)
+    returns-6)

@@ -1,7 +1,8 @@
 -- The status first, then the bytes of the rest, as in the definition.
 use borrow.Author.Needs.{needs}
+use Rattle.wire.specs.Digits.{octetsIn}
 use Rattle.messages.specs.Read.{tagWriteReplyIn}
-use Rattle.replies.proofs.ReplyLaws.{ways, octets-value, octets-bad, finds-behind, tag-read, refusal}
+use Rattle.replies.proofs.ReplyLaws.{ways, octets-value, octets-bad, finds-behind, octets-read, refusal}
 use Rattle.replies.proofs.read.read_tag_write_reply.Statement.{statement}
 use Rattle.replies.proofs.read.read_tag_write_reply.Tie as tie
 
@@ -51,11 +52,11 @@ without-bytes-requires-3 c κs = search needs
 
 returns-3 : tie.Need-returns-3
 unfolding tagWriteReplyIn
-returns-3 c = search (ways, octets-bad, finds-behind, refusal)
+returns-3 c = search (ways, octets-bad, finds-behind octetsIn, refusal)
 
 returns-4 : tie.Need-returns-4
 unfolding tagWriteReplyIn
-returns-4 c = search (ways, octets-value, finds-behind, tag-read)
+returns-4 c = search (ways, octets-value, finds-behind octetsIn, octets-read)
 
 pub read-tag-write-reply-spec : {M : Type 1} → statement M
 read-tag-write-reply-spec =

@@ -1,6 +1,6 @@
--- A power control and a date write are judged by their own tests; every other request is in range.
+-- A power control, a date write and a schedule's requests are judged by their own tests; every other request is in range.
 use borrow.Author.Needs.{needs}
-use Rattle.station.proofs.Laws.{mode-range, date-range, others-range}
+use Rattle.station.proofs.Laws.{mode-range, date-range, schedule-range, schedule-beside, others-range}
 use Rattle.station.proofs.encode.is_in_range.Statement.{statement}
 use Rattle.station.proofs.encode.is_in_range.Tie as tie
 
@@ -19,8 +19,17 @@ is-accepted-requires c κs = search needs
 returns-2 : tie.Need-returns-2
 returns-2 c = search date-range
 
+enum-known-request-3 : tie.Need-enum-known-request-3
+enum-known-request-3 c = search needs
+
+is-schedule-in-range-requires : tie.Need-is-schedule-in-range-requires
+is-schedule-in-range-requires c κs = search schedule-beside
+
 returns-3 : tie.Need-returns-3
-returns-3 c = search others-range
+returns-3 c = search schedule-range
+
+returns-4 : tie.Need-returns-4
+returns-4 c = search others-range
 
 pub is-in-range-spec : {M : Type 1} → statement M
 is-in-range-spec =
@@ -31,4 +40,7 @@ is-in-range-spec =
     enum-known-request-2
     is-accepted-requires
     returns-2
-    returns-3)
+    enum-known-request-3
+    is-schedule-in-range-requires
+    returns-3
+    returns-4)

@@ -9,6 +9,7 @@ use Rattle.messages.specs.declared.message.Item.{Item}
 use Rattle.messages.specs.declared.message.Parameter.{Parameter}
 use Rattle.messages.specs.declared.message.PowerMode.{PowerMode}
 use Rattle.messages.specs.declared.message.Reply.{Reply}
+use Rattle.messages.specs.declared.message.ScheduleAnswer.{ScheduleAnswer}
 use Rattle.messages.specs.declared.message.Status.{Status}
 use Rattle.station_c.specs.Read.{replyKind, itemKind, numbersOf}
 use Rattle.station_c.specs.Inner.{Lists, listing}
@@ -52,6 +53,9 @@ module _ (l : Listed) (id : ℕ) (r : Reply) where
 
   item-listed : (i : Item) (kind beside : ℕ) → r ≡ Reply.Item i beside → kind ≡ itemKind i → l ≡ listing kind (id ∷ []) beside → Lists l id r
   item-listed i kind beside e h q = rw (e, q, h) (search needs)
+
+  schedule-listed : (a : ScheduleAnswer) → r ≡ Reply.Schedule a → Lists l id (Reply.Schedule a) → Lists l id r
+  schedule-listed a e lists = rw e lists
 
 enum-told : tie.Need-enum-told
 enum-told c = search needs
@@ -125,11 +129,20 @@ returns-7 c = search item-listed
 enum-known-reply-7 : tie.Need-enum-known-reply-7
 enum-known-reply-7 c = search needs
 
-list-tag-requires : tie.Need-list-tag-requires
-list-tag-requires c κs = search needs
+list-written-requires : tie.Need-list-written-requires
+list-written-requires c κs = search needs
 
 returns-8 : tie.Need-returns-8
 returns-8 c = search tag-listed
+
+enum-known-reply-8 : tie.Need-enum-known-reply-8
+enum-known-reply-8 c = search needs
+
+list-schedule-requires : tie.Need-list-schedule-requires
+list-schedule-requires c κs = search needs
+
+returns-9 : tie.Need-returns-9
+returns-9 c = search schedule-listed
 
 pub list-reply-spec : {M : Type 1} → statement M
 list-reply-spec =
@@ -159,5 +172,8 @@ list-reply-spec =
     list-bytes-requires-2
     returns-7
     enum-known-reply-7
-    list-tag-requires
-    returns-8)
+    list-written-requires
+    returns-8
+    enum-known-reply-8
+    list-schedule-requires
+    returns-9)

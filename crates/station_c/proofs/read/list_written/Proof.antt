@@ -1,7 +1,7 @@
 -- The numbers are filled up with zeros.
 use borrow.Author.Needs.{needs}
-use Rattle.station_c.proofs.read.list_tag.Statement.{statement}
-use Rattle.station_c.proofs.read.list_tag.Tie as tie
+use Rattle.station_c.proofs.read.list_written.Statement.{statement}
+use Rattle.station_c.proofs.read.list_written.Tie as tie
 
 number-requires : tie.Need-number-requires
 number-requires c κs = search needs
@@ -12,5 +12,5 @@ cast-number c = search needs
 returns : tie.Need-returns
 returns c = rw (c .number .ensures)
 
-pub list-tag-spec : {M : Type 1} → statement M
-list-tag-spec = tie.close (tie.spec number-requires cast-number returns)
+pub list-written-spec : {M : Type 1} → statement M
+list-written-spec = tie.close (tie.spec number-requires cast-number returns)
