@@ -23,8 +23,8 @@ BOARD = target/staticlib/libboard_c.a
 
 # Each folder of host has its objects in a folder of its own, for a file in another may have the same name.
 OBJECTS = $(OUT)/objects
-BENCH_PARTS = bench command deadline decode echo erase fields help identity inside json line options port port_serial port_tcp \
-        progress read_back reply request say show talk unused verdict words
+BENCH_PARTS = bench command deadline decode echo erase fields help identity inside json line numbers options port port_serial \
+        port_tcp progress read_back reply request say schedule show talk unused verdict words
 BOARDSIM_PARTS = boardsim end line options
 COMMON_OBJECTS = $(OBJECTS)/common/standard_files.o
 # The simulated board that both programs have.

@@ -1,46 +1,11 @@
 /* The words of a command as the request that they stand for. */
 #include "command.h"
 
+#include "numbers.h"
+#include "schedule.h"
 #include "words.h"
 
 #include <string.h>
-
-/* ---- numbers */
-
-/* Takes a decimal number or one of hexadecimal digits behind 0x, at most `most`. */
-static bool take_number(const char *text, unsigned most, unsigned *number)
-{
-    static const char digits[] = "0123456789abcdef";
-    unsigned base = text[0] == '0' && (text[1] == 'x' || text[1] == 'X') ? 16 : 10;
-
-    *number = 0;
-    text += base == 16 ? 2 : 0;
-    if (*text == '\0')
-        return false;
-    for (; *text != '\0'; text++) {
-        char small = *text >= 'A' && *text <= 'F' ? (char)(*text - 'A' + 'a') : *text;
-        const char *digit = strchr(digits, small);
-
-        if (digit == NULL || (unsigned)(digit - digits) >= base)
-            return false;
-        *number = *number * base + (unsigned)(digit - digits);
-        if (*number > most)
-            return false;
-    }
-    return true;
-}
-
-/* Takes exactly `count` decimal digits at the start of a text. */
-static bool take_digits(const char **text, int count, unsigned *number)
-{
-    *number = 0;
-    for (; count > 0; count--, ++*text) {
-        if (**text < '0' || **text > '9')
-            return false;
-        *number = *number * 10 + (unsigned)(**text - '0');
-    }
-    return true;
-}
 
 /* ---- get and set */
 
@@ -126,8 +91,8 @@ static enum status power_request(char **words, int count, struct request *reques
 static bool take_date(const char *day, const char *time, unsigned date[DATE_FIELDS])
 {
     return take_digits(&day, 4, &date[DATE_YEAR]) && *day++ == '-' && take_digits(&day, 2, &date[DATE_MONTH]) && *day++ == '-' &&
-           take_digits(&day, 2, &date[DATE_DAY]) && *day == '\0' && take_digits(&time, 2, &date[DATE_HOUR]) && *time++ == ':' &&
-           take_digits(&time, 2, &date[DATE_MINUTE]) && *time == '\0';
+           take_digits(&day, 2, &date[DATE_DAY]) && *day == '\0' &&
+           take_hour_and_minute(time, &date[DATE_HOUR], &date[DATE_MINUTE]);
 }
 
 static enum status date_request(char **words, int count, struct request *request)
@@ -204,6 +169,8 @@ enum status command_request(char **words, int count, struct request *request)
         return plain_request(STATION_REPLY_MODEL, name, count, request);
     if (strcmp(name, "former-tag") == 0)
         return plain_request(STATION_REPLY_FORMER_TAG, name, count, request);
-    return say_usage("give one of get, set, power, date, serial, model, tag, former-tag, erase, decode", "there is no command '%s'",
-                     name);
+    if (strcmp(name, "schedule") == 0)
+        return schedule_request(words, count, request);
+    return say_usage("give one of get, set, power, date, serial, model, tag, former-tag, schedule, erase, decode",
+                     "there is no command '%s'", name);
 }

@@ -326,7 +326,8 @@ static bool is_wanted(struct erase *e)
         fprintf(stderr, "  None of them replies, so bench will not be able to say that any is erased.\n");
     else
         show_set(e);
-    fprintf(stderr, "  Lost for good: the eight settings, power mode, date, tag and former tag.\nType yes to erase: ");
+    fprintf(stderr,
+            "  Lost for good: the eight settings, power mode, date, tag, former tag and the seven programs.\nType yes to erase: ");
     if (fflush(stderr) != 0 || ferror(stderr) != 0)
         return false; /* nobody has seen the question */
     if (fgets(answer, sizeof answer, stdin) == NULL || isatty(STDIN_FILENO) != 1)

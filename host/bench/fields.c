@@ -2,6 +2,7 @@
 #include "fields.h"
 
 #include "request.h"
+#include "schedule.h"
 #include "words.h"
 
 #include <stdio.h>
@@ -11,7 +12,7 @@ static void add(struct fields *fields, const char *key, unsigned number, int dig
     struct field *field = &fields->list[fields->count++];
 
     *field = (struct field){.key = key, .number = number, .digits = digits};
-    snprintf(field->words, sizeof field->words, "%s", words != NULL ? words : "");
+    snprintf(field->words, sizeof field->words, "%.*s", (int)sizeof field->words - 1, words != NULL ? words : "");
 }
 
 /* A result or status. */
@@ -50,10 +51,40 @@ static void add_date_fields(struct fields *fields, const uint16_t *date)
     add(fields, "daylight", date[DATE_DAYLIGHT], 2, NULL);
 }
 
+static void add_time_fields(struct fields *fields, const char *hour_key, const char *minute_key, const uint8_t *time)
+{
+    const char *words = time[0] == NO_HOUR && time[1] == NO_MINUTE ? "not set" : NULL;
+
+    add(fields, hour_key, time[0], 2, words);
+    add(fields, minute_key, time[1], 2, words);
+}
+
+static void add_program_fields(struct fields *fields, const uint8_t *program)
+{
+    struct text days = {.len = 0}, flags = {.len = 0};
+
+    add_days(&days, program[PROGRAM_WEEK]);
+    add_flags(&flags, program[PROGRAM_FLAGS]);
+    add(fields, "program", program[PROGRAM_NUMBER], 2, NULL);
+    add_time_fields(fields, "on_hour", "on_minute", program + PROGRAM_ON_HOUR);
+    add_time_fields(fields, "off_hour", "off_minute", program + PROGRAM_OFF_HOUR);
+    add(fields, "input", program[PROGRAM_INPUT], 2, program_input_words(program[PROGRAM_INPUT]));
+    add(fields, "week", program[PROGRAM_WEEK], 2, days.chars);
+    add(fields, "flags", program[PROGRAM_FLAGS], 2, flags.chars);
+    fields->reserved = program + PROGRAM_RESERVED;
+}
+
+static void add_enable_fields(struct fields *fields, const uint16_t *n)
+{
+    add_status(fields, "status", n[0]);
+    add(fields, "program", n[1], 2, NULL);
+    add(fields, "enable", n[2], 2, n[2] == 1 ? "enabled" : n[2] == 0 ? "disabled" : NULL);
+}
+
 struct fields fields_of(const struct reply *reply)
 {
     const uint16_t *n = reply->numbers + 1;
-    struct fields fields = {.has_bytes = reply->kind >= STATION_REPLY_SERIAL};
+    struct fields fields = {.has_bytes = reply->kind >= STATION_REPLY_SERIAL && reply->kind <= STATION_REPLY_TAG_WRITE};
 
     switch (reply->kind) {
     case STATION_REPLY_GET:
@@ -74,6 +105,16 @@ struct fields fields_of(const struct reply *reply)
         break;
     case STATION_REPLY_TAG_WRITE:
         add_status(&fields, "status", n[0]);
+        break;
+    case STATION_REPLY_SCHEDULE_READ:
+        add_program_fields(&fields, reply->bytes);
+        break;
+    case STATION_REPLY_SCHEDULE_WRITE:
+        add_status(&fields, "status", n[0]);
+        add_program_fields(&fields, reply->bytes);
+        break;
+    case STATION_REPLY_SCHEDULE_ENABLE:
+        add_enable_fields(&fields, n);
         break;
     default:
         break;

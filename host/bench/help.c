@@ -32,7 +32,12 @@ static const char commands[] =
     "  serial, model                          show the serial number and the model\n"
     "  tag | tag write TEXT                   shows or writes the tag, at most 16 bytes\n"
     "  former-tag                             shows the tag before; a tag write leaves it in the board\n"
-    "  erase                                  erases settings, power mode, date, tag and former tag, and says\n"
+    "  schedule N                             shows program N of the weekly schedule, 0 to 6\n"
+    "  schedule N on | schedule N off         enables or disables it\n"
+    "  schedule N set ON OFF [input I] [days DAYS] daily|every-week|once [enabled|disabled]\n"
+    "      sets it: ON and OFF are times as 07:00, or - for none; I is 1, 3, 17 or none; DAYS are as mon-fri or\n"
+    "      mon,wed,sat-sun, or none; left out, there is no input, no day, and it is enabled\n"
+    "  erase                                  erases settings, power mode, date, tags and programs, and says\n"
     "                                         erased, not erased or not known, or contradicted\n"
     "  decode HEX                             explains a reply given as hexadecimal digits, spaces allowed\n"
     "\n";

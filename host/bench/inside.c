@@ -80,8 +80,9 @@ struct inside *inside_open(const char *store_file)
                         strlen(serial), (const uint8_t *)model, strlen(model));
     if (refusal != 0)
         return give_up(inside, store_file, sim_refusal_text(refusal));
-    if (sim_is_erasing(&inside->sim))
-        follow(inside, BOARD_BEGUN);
+    follow(inside, sim_is_erasing(&inside->sim) ? BOARD_BEGUN : BOARD_WAITING);
+    if (inside->sim.is_converted && !inside->is_off)
+        say_note("the store '%s' %s", store_file, sim_conversion_text);
     return inside;
 }
 

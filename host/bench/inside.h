@@ -10,7 +10,8 @@ struct inside;
 
 /*
  * Starts a board with monitor ID 1 on the store file of this name, or for a null pointer on an unused store; a pending erase runs
- * to its end. Where the file or its bytes are refused, says so and gives a null pointer.
+ * to its end, and where the start converts the store, that is said. Where the file or its bytes are refused, says so and gives a
+ * null pointer.
  */
 struct inside *inside_open(const char *store_file);
 

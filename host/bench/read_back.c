@@ -71,6 +71,23 @@ static bool compare(struct bench *bench, const struct identity *set, const struc
     return true;
 }
 
+/* Compares the programs, as long as the board answers. */
+static void compare_programs(struct bench *bench, const struct identity *set, struct read_back *found)
+{
+    bool goes_on = true;
+
+    for (unsigned number = 0; goes_on && number < PROGRAMS; number++) {
+        char name[16];
+        const struct reading reading = {.name = name,
+                                        .request = {.kind = STATION_REPLY_SCHEDULE_READ,
+                                                    .dest = bench->options.dest,
+                                                    .program = {[PROGRAM_NUMBER] = (uint8_t)number}}};
+
+        snprintf(name, sizeof name, "program %u", number);
+        goes_on = compare(bench, set, &reading, found);
+    }
+}
+
 void read_back_all(struct bench *bench, const struct identity *set, struct read_back *found)
 {
     static const struct reading kinds[] = {
@@ -97,4 +114,6 @@ void read_back_all(struct bench *bench, const struct identity *set, struct read_
 
         goes_on = compare(bench, set, &reading, found);
     }
+    if (goes_on)
+        compare_programs(bench, set, found);
 }

@@ -16,7 +16,7 @@ struct read_back {
     bool is_closed;       /* the line ended while it was read */
 };
 
-/* Reads identity, tags, power, date and settings, and shows them. */
+/* Reads identity, tags, power, date, settings and programs, and shows them. */
 void read_back_all(struct bench *bench, const struct identity *set, struct read_back *found);
 
 #endif

@@ -32,6 +32,8 @@ bool reply_is_refusal(const struct reply *reply)
     case STATION_REPLY_POWER_CONTROL:
     case STATION_REPLY_DATE_WRITE:
     case STATION_REPLY_TAG_WRITE:
+    case STATION_REPLY_SCHEDULE_WRITE:
+    case STATION_REPLY_SCHEDULE_ENABLE:
         return reply->numbers[1] != 0;
     default:
         return false;
@@ -46,7 +48,7 @@ const char *refusal_meaning(uint8_t refusal)
     case STATION_REFUSED_MONITOR_ID:
         return "the monitor ID is neither 1 to 8 nor all";
     case STATION_REFUSED_VALUE:
-        return "a power mode, a date or a tag is outside its range";
+        return "a power mode, a date, a tag or a program is outside its range";
     case STATION_REFUSED_REPLY_SHORT:
         return "it has fewer than 13 bytes, and no reply is that short";
     case STATION_REFUSED_REPLY_HEADER:

@@ -24,6 +24,23 @@ static uint8_t encode_read(const struct request *r, uint8_t *out, size_t room, s
     }
 }
 
+/* The requests that name a program. */
+static uint8_t encode_schedule(const struct request *r, uint8_t *out, size_t room, size_t *size)
+{
+    const uint8_t *p = r->program;
+
+    switch (r->kind) {
+    case STATION_REPLY_SCHEDULE_READ:
+        return station_encode_schedule_read(r->dest, p[PROGRAM_NUMBER], out, room, size);
+    case STATION_REPLY_SCHEDULE_WRITE:
+        return station_encode_schedule_write(r->dest, p[PROGRAM_NUMBER], p[PROGRAM_ON_HOUR], p[PROGRAM_ON_MINUTE],
+                                             p[PROGRAM_OFF_HOUR], p[PROGRAM_OFF_MINUTE], p[PROGRAM_INPUT], p[PROGRAM_WEEK],
+                                             p[PROGRAM_FLAGS], out, room, size);
+    default:
+        return station_encode_schedule_enable(r->dest, p[PROGRAM_NUMBER], (uint8_t)r->value, out, room, size);
+    }
+}
+
 uint8_t request_encode(const struct request *r, struct packet *packet)
 {
     uint8_t *out = packet->bytes;
@@ -42,6 +59,10 @@ uint8_t request_encode(const struct request *r, struct packet *packet)
                                          d[DATE_MINUTE], d[DATE_DAYLIGHT], out, room, &packet->len);
     case STATION_REPLY_TAG_WRITE:
         return station_encode_tag_write(r->dest, (const uint8_t *)r->tag, strlen(r->tag), out, room, &packet->len);
+    case STATION_REPLY_SCHEDULE_READ:
+    case STATION_REPLY_SCHEDULE_WRITE:
+    case STATION_REPLY_SCHEDULE_ENABLE:
+        return encode_schedule(r, out, room, &packet->len);
     default:
         return encode_read(r, out, room, &packet->len);
     }
@@ -77,6 +98,12 @@ bool request_is_answered(const struct request *request, const struct reply *repl
         return shows_date(request, reply);
     case STATION_REPLY_TAG_WRITE:
         return reply->count == strlen(request->tag) && memcmp(reply->bytes, request->tag, reply->count) == 0;
+    case STATION_REPLY_SCHEDULE_READ:
+        return reply->bytes[PROGRAM_NUMBER] == request->program[PROGRAM_NUMBER];
+    case STATION_REPLY_SCHEDULE_WRITE:
+        return memcmp(reply->bytes, request->program, PROGRAM_NUMBERS) == 0;
+    case STATION_REPLY_SCHEDULE_ENABLE:
+        return n[2] == request->program[PROGRAM_NUMBER] && n[3] == request->value;
     default:
         return true;
     }
@@ -89,6 +116,8 @@ bool request_changes(const struct request *request)
     case STATION_REPLY_POWER_CONTROL:
     case STATION_REPLY_DATE_WRITE:
     case STATION_REPLY_TAG_WRITE:
+    case STATION_REPLY_SCHEDULE_WRITE:
+    case STATION_REPLY_SCHEDULE_ENABLE:
         return true;
     default:
         return false;

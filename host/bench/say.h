@@ -19,7 +19,7 @@ enum status {
 
 /* A text that grows and never past its room. */
 struct text {
-    char chars[2048];
+    char chars[4096];
     size_t len;
 };
 

@@ -3,6 +3,8 @@
 
 #include "fields.h"
 #include "json.h"
+#include "request.h"
+#include "schedule.h"
 #include "words.h"
 
 #include <stdio.h>
@@ -47,6 +49,13 @@ static void add_change(struct text *text, const struct reply *reply)
         text_add(text, "date set to ");
         add_date(text, n + 2);
         break;
+    case STATION_REPLY_SCHEDULE_WRITE:
+        text_add(text, "program %u set to ", reply->bytes[PROGRAM_NUMBER]);
+        add_program(text, reply->bytes);
+        break;
+    case STATION_REPLY_SCHEDULE_ENABLE:
+        text_add(text, "program %u %s", n[2], n[3] != 0 ? "enabled" : "disabled");
+        break;
     default:
         text_add(text, "tag set to ");
         text_add_quoted(text, reply->bytes, reply->count);
@@ -81,10 +90,22 @@ void add_sentence(struct text *text, const struct reply *reply)
     case STATION_REPLY_FORMER_TAG:
         add_item(text, kind_words(reply->kind), reply);
         break;
+    case STATION_REPLY_SCHEDULE_READ:
+        text_add(text, "program %u: ", reply->bytes[PROGRAM_NUMBER]);
+        add_program(text, reply->bytes);
+        break;
     default:
         add_change(text, reply);
         break;
     }
+}
+
+static void print_reserved(const uint8_t *reserved)
+{
+    printf("%-10s", "reserved");
+    for (size_t i = 0; i < RESERVED_NUMBERS; i++)
+        printf(" %02X", reserved[i]);
+    putchar('\n');
 }
 
 void show_list(const struct reply *reply)
@@ -92,20 +113,22 @@ void show_list(const struct reply *reply)
     struct fields fields = fields_of(reply);
     struct text quoted = {.len = 0};
 
-    printf("%-9s monitor %u\n", "sender", reply_sender(reply));
-    printf("%-9s %s\n", "kind", kind_words(reply->kind));
+    printf("%-10s monitor %u\n", "sender", reply_sender(reply));
+    printf("%-10s %s\n", "kind", kind_words(reply->kind));
     for (size_t i = 0; i < fields.count; i++) {
         const struct field *field = &fields.list[i];
 
-        printf("%-9s %u (%0*Xh)", field->key, field->number, field->digits, field->number);
+        printf("%-10s %u (%0*Xh)", field->key, field->number, field->digits, field->number);
         if (field->words[0] != '\0')
             printf(": %s", field->words);
         putchar('\n');
     }
     if (fields.has_bytes) {
         text_add_quoted(&quoted, reply->bytes, reply->count);
-        printf("%-9s %s, %zu bytes\n", "text", quoted.chars, reply->count);
+        printf("%-10s %s, %zu bytes\n", "text", quoted.chars, reply->count);
     }
+    if (fields.reserved != NULL)
+        print_reserved(fields.reserved);
 }
 
 /* ---- for programs */
@@ -132,6 +155,8 @@ static void print_json_reply(const struct reply *reply)
         print_json_bytes(reply->bytes, reply->count);
         print_json_hex("hex", reply->bytes, reply->count);
     }
+    if (fields.reserved != NULL)
+        print_json_hex("reserved_hex", fields.reserved, RESERVED_NUMBERS);
 }
 
 void show_json(const struct reply *reply, const uint8_t *packet, size_t len, unsigned remarks)

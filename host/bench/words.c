@@ -82,6 +82,9 @@ static const struct {
     {"tag", "tag"},
     {"former tag", "former-tag"},
     {"reply to a tag write", "tag-write"},
+    {"reply to a schedule request", "schedule"},
+    {"reply to a schedule write", "schedule-write"},
+    {"reply to a schedule enable write", "schedule-enable"},
 };
 
 const char *kind_words(uint8_t kind)

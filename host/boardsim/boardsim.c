@@ -320,6 +320,9 @@ static void start(struct simulator *s)
                         strlen(o->model));
     if (refusal != 0)
         end_refused(o->store, refusal);
+    check_store(o->store, store_file_keep(&s->store));
+    if (s->sim.is_converted)
+        fprintf(stderr, "boardsim: the store %s %s\n", o->store, sim_conversion_text);
     s->erasing = sim_is_erasing(&s->sim);
     s->last_step = now();
 }

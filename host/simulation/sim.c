@@ -9,9 +9,12 @@ enum { ERASE_MARK = 0xE7 };
 uint8_t sim_start(struct sim *sim, uint8_t *store, uint8_t id, const uint8_t *serial, size_t serial_len, const uint8_t *model,
                   size_t model_len)
 {
+    uint8_t mark = store[0];
+
     memset(sim, 0, sizeof *sim);
     sim->store = store;
     sim->refusal = board_start(id, serial, serial_len, model, model_len, store, SIM_STORE_SIZE, sim->state, sizeof sim->state);
+    sim->is_converted = store[0] != mark;
     return sim->refusal;
 }
 
@@ -37,6 +40,8 @@ bool sim_is_erasing(const struct sim *sim)
     return sim->store[0] == ERASE_MARK;
 }
 
+const char sim_conversion_text[] = "had mark 00h, without programs: it has seven unused ones and mark 01h now";
+
 const char *sim_refusal_text(uint8_t refusal)
 {
     switch (refusal) {
@@ -61,7 +66,7 @@ const char *sim_refusal_text(uint8_t refusal)
     case BOARD_REFUSED_SHORT_BUFFER:
         return "the room for a reply is below 64 bytes; nothing has changed";
     case BOARD_REFUSED_NOT_A_STORE:
-        return "this is not a board's store of 128 bytes with 00h or E7h in front; nothing has changed";
+        return "this is not a board's store of 128 bytes with 00h, 01h or E7h in front; nothing has changed";
     case BOARD_REFUSED_UNSOUND:
         return "the board's state, its store or its identity holds what no board can hold; nothing has changed";
     case BOARD_REFUSED_NO_ERASE_PENDING:

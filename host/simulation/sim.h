@@ -18,10 +18,14 @@ struct sim {
     uint8_t state[BOARD_STATE_SIZE];
     uint8_t reply[BOARD_REPLY_ROOM]; /* the reply of the last call that gave one */
     size_t reply_len;
-    uint8_t refusal; /* of the last refused call */
+    uint8_t refusal;   /* of the last refused call */
+    bool is_converted; /* the store was older than the programs, and the start has given it unused ones */
 };
 
-/* Starts a board on a store. The result is 0, or the refusal: then there is no board, and `store` is as it was. */
+/*
+ * Starts a board on a store. The result is 0, or the refusal: then there is no board, and `store` is as it was. A start may store,
+ * and `is_converted` tells that it has.
+ */
 uint8_t sim_start(struct sim *sim, uint8_t *store, uint8_t id, const uint8_t *serial, size_t serial_len, const uint8_t *model,
                   size_t model_len);
 
@@ -32,6 +36,9 @@ uint8_t sim_step(struct sim *sim);
 
 /* Whether an erase is pending: byte 0 of the store is E7h. */
 bool sim_is_erasing(const struct sim *sim);
+
+/* What a start has done that converted a store, to stand behind the store's name. */
+extern const char sim_conversion_text[];
 
 /* A sentence with no full stop: what a refusal means and what was left unchanged. */
 const char *sim_refusal_text(uint8_t refusal);

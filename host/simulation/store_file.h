@@ -29,8 +29,9 @@ struct store_file {
 enum store_file_status store_file_open(struct store_file *file, const char *path);
 
 /*
- * Writes what a call has stored. It goes out in one write, and a program that is killed leaves all of it or nothing: a call other
- * than an erase step finishes on the supply, and an erase step stores one byte. Gives STORE_FILE_OPEN, or what is wrong.
+ * Writes what a call has stored, a start among them. It goes out in one write, and a program that is killed leaves all of it or
+ * nothing: a call other than an erase step finishes on the supply, and an erase step stores one byte. Gives STORE_FILE_OPEN, or
+ * what is wrong.
  */
 enum store_file_status store_file_keep(struct store_file *file);
 
