@@ -1,5 +1,6 @@
 /*
- * Tries every function of board.h. What is expected is worked out here from document 01.
+ * Tries every function of board.h. What is expected is worked out here from document 01, and of programs and marks from
+ * document 02.
  *
  * No sanitizer sees into the library, so in one round every buffer lent to it begins right behind a page that may not be touched,
  * and in another it ends right before one: a read or a write there ends the program. What lies on the other side is compared.
@@ -210,41 +211,96 @@ static const struct {
 } fields[FIELDS] = {{7, 0, 100}, {2, 0, 2},  {6, 0, 60}, {7, 0, 100}, {7, 0, 100}, {7, 0, 100}, {7, 0, 100}, {2, 1, 2}, {1, 0, 1},
                     {7, 0, 99},  {4, 1, 12}, {5, 1, 31}, {3, 0, 6},   {5, 0, 23},  {6, 0, 59},  {5, 0, 16},  {5, 0, 16}};
 
+static void put_bits(uint8_t *store, unsigned place, unsigned width, unsigned value)
+{
+    for (unsigned i = 0; i < width; i++) {
+        unsigned bit = place + i;
+        uint8_t mask = (uint8_t)(0x80 >> bit % 8);
+
+        store[bit / 8] &= (uint8_t)~mask;
+        if (value >> (width - 1 - i) & 1)
+            store[bit / 8] |= mask;
+    }
+}
+
 static void put_field(uint8_t *store, enum field field, unsigned value)
 {
     unsigned place = 8;
 
     for (int before = 0; before < (int)field; before++)
         place += fields[before].width;
-    for (unsigned i = 0; i < fields[field].width; i++) {
-        unsigned bit = place + i;
-        uint8_t mask = (uint8_t)(0x80 >> bit % 8);
-
-        store[bit / 8] &= (uint8_t)~mask;
-        if (value >> (fields[field].width - 1 - i) & 1)
-            store[bit / 8] |= mask;
-    }
+    put_bits(store, place, fields[field].width, value);
 }
 
-static const uint8_t unused_front[] = {0x00, 0x8C, 0x3C, 0xC9, 0x91, 0x4A, 0x0C, 0x00, 0x87, 0x00, 0x00, 0x00};
+/* The marks: of a store without programs, of one with them, and while an erase is pending. */
+enum { OLD_MARK = 0x00, MARK = 0x01, ERASE_MARK = 0xE7 };
+
+/* Seven programs of five bytes each, by the widths of what they hold; six spare bits stand behind that. */
+enum { PROGRAMS = 7, PROGRAM_SIZE = 5, PROGRAMS_AT = 44, PROGRAMS_END = PROGRAMS_AT + PROGRAMS * PROGRAM_SIZE };
+
+enum part { ON_HOUR, ON_MINUTE, OFF_HOUR, OFF_MINUTE, PROGRAM_INPUT, WEEK, FLAGS, PARTS };
+
+static const unsigned part_widths[PARTS] = {5, 6, 5, 6, 2, 7, 3};
+
+static void put_part(uint8_t *store, unsigned program, enum part part, unsigned value)
+{
+    unsigned place = 8 * (PROGRAMS_AT + PROGRAM_SIZE * program);
+
+    for (int before = 0; before < (int)part; before++)
+        place += part_widths[before];
+    put_bits(store, place, part_widths[part], value);
+}
+
+static void put_unused_programs(uint8_t *store)
+{
+    static const uint8_t unused[PROGRAM_SIZE] = {0xC7, 0x98, 0xF0, 0x00, 0x00};
+
+    for (unsigned program = 0; program < PROGRAMS; program++)
+        memcpy(store + PROGRAMS_AT + PROGRAM_SIZE * program, unused, sizeof unused);
+}
+
+static const uint8_t unused_front[] = {MARK, 0x8C, 0x3C, 0xC9, 0x91, 0x4A, 0x0C, 0x00, 0x87, 0x00, 0x00, 0x00};
 
 static void put_unused(uint8_t *store)
 {
     memset(store, 0, BOARD_STORE_SIZE);
     memcpy(store, unused_front, sizeof unused_front);
+    put_unused_programs(store);
 }
 
-/* A store of a board in use and on: random fields within their ranges, anything in tags, spare bits and spare bytes. */
+/* A time of day, or none: hour 24 and minute 60. */
+static void put_random_time(uint8_t *store, unsigned program, enum part hour)
+{
+    int is_set = random_number() % 4 != 0;
+
+    put_part(store, program, hour, is_set ? (unsigned)(random_number() % 24) : 24);
+    put_part(store, program, hour + 1, is_set ? (unsigned)(random_number() % 60) : 60);
+}
+
+/* A store of a board in use and on: random fields and times within their ranges, anything in tags, spare bits and spare bytes. */
 static void put_used(uint8_t *store)
 {
     random_bytes(store, BOARD_STORE_SIZE);
-    store[0] = 0x00;
+    store[0] = MARK;
     for (int field = 0; field < FIELDS; field++) {
         unsigned first = fields[field].first, values = fields[field].last - first + 1;
 
         put_field(store, (enum field)field, first + (unsigned)(random_number() % values));
     }
     put_field(store, POWER, 1);
+    for (unsigned program = 0; program < PROGRAMS; program++) {
+        put_random_time(store, program, ON_HOUR);
+        put_random_time(store, program, OFF_HOUR);
+    }
+}
+
+/* What a start makes of a store on which it starts: one without programs gets unused ones. */
+static void convert(uint8_t *store)
+{
+    if (store[0] != OLD_MARK)
+        return;
+    put_unused_programs(store);
+    store[0] = MARK;
 }
 
 /* The board under test */
@@ -266,6 +322,7 @@ static int start_with(int id, const void *serial, size_t serial_len, const void 
                       size_t store_len, size_t state_len)
 {
     const uint8_t *serial_lent = lend_copy(SERIAL, serial, serial_len), *model_lent = lend_copy(MODEL, model, model_len);
+    uint8_t left[ZONE];
     int result;
 
     board.id = id;
@@ -275,7 +332,10 @@ static int start_with(int id, const void *serial, size_t serial_len, const void 
     board.store = lend_copy(STORE, store, store_len);
     result =
         board_start((uint8_t)id, serial_lent, serial_len, model_lent, model_len, board.store, store_len, board.state, state_len);
-    CHECK(holds_only(STORE, board.store, store, store_len), "start: store changed");
+    memcpy(left, store, store_len);
+    if (result == 0)
+        convert(left);
+    CHECK(holds_only(STORE, board.store, left, store_len), "start: result %d, and another store", result);
     CHECK(holds_only(SERIAL, serial_lent, serial, serial_len), "start: serial number changed");
     CHECK(holds_only(MODEL, model_lent, model, model_len), "start: model changed");
     if (result == 0)
@@ -290,7 +350,11 @@ static const char serial[] = "SN-0042", model[] = "M421";
 /* Starts a board on what is expected in its store. */
 static int start(int id)
 {
-    return start_with(id, serial, strlen(serial), model, strlen(model), expected, BOARD_STORE_SIZE, BOARD_STATE_SIZE);
+    int result = start_with(id, serial, strlen(serial), model, strlen(model), expected, BOARD_STORE_SIZE, BOARD_STATE_SIZE);
+
+    if (result == 0)
+        convert(expected);
+    return result;
 }
 
 #define START(id) CHECK(start(id) == 0, "start refused")
@@ -461,7 +525,7 @@ static const char erase_text[] = "F0010001", erase_reply_text[] = "00F0010100010
 static void begin_erase(int line, int destination)
 {
     give(line, request_to(destination, 'E', erase_text));
-    expected[0] = 0xE7;
+    expected[0] = ERASE_MARK;
     check_answer(line, BOARD_BEGUN);
 }
 
@@ -498,7 +562,7 @@ static void finish_erase(int line, int p, int is_owed)
 
     run_steps(line, p, BOARD_ERASE_STEPS - 1);
     step_into(line, BOARD_REPLY_ROOM);
-    expected[0] = 0x00;
+    expected[0] = MARK;
     if (is_owed)
         check_reply(line, packet_of('0', own_address(), 'F', erase_reply_text));
     else
@@ -558,7 +622,7 @@ static void test_lessons(void)
     give_and_expect(packet_in_hex(p10), POWER, 0);
     check_reply(__LINE__, packet_of('0', 'A', 'B', "00C203D60004"));
     GIVE(packet_in_hex(p6));
-    expected[0] = 0xE7;
+    expected[0] = ERASE_MARK;
     check_answer(__LINE__, BOARD_BEGUN);
     FINISH_ERASE(1, 1);
     check_reply(__LINE__, packet_in_hex(p7));
@@ -624,6 +688,29 @@ static const struct {
     {'A', "BE", 'B', "BE"},
     {'A', "0010", 'B', "BE"},
     {'A', "00100032", 'B', "BE"},
+    {'A', "C22100", 'B', "C32100183C183C0000000000000000000000"},
+    {'A', "C22106", 'B', "C32106183C183C0000000000000000000000"},
+    {'A', "C22107", 'B', "BE"},
+    {'A', "C221", 'B', "BE"},
+    {'A', "C2210", 'B', "BE"},
+    {'A', "C22100 ", 'B', "BE"},
+    {'A', "C2210000", 'B', "BE"},
+    {'A', "C2210a", 'B', "BE"},
+    {'C', "C221", 'D', "01C2210000000000"},
+    {'A', "C22207183C183C0000000000000000000000", 'B', "C3220107183C183C0000000000000000000000"},
+    {'A', "C222", 'B', "BE"},
+    {'A', "C22200183C183C00000000000000000000", 'B', "BE"},
+    {'A', "C22200183C183C000000000000000000000", 'B', "BE"},
+    {'A', "C22200183C183C000000000000000000000000", 'B', "BE"},
+    {'A', "C22200183c183C0000000000000000000000", 'B', "BE"},
+    {'A', "C2150701", 'B', "C315010701"},
+    {'A', "C2150002", 'B', "C315010002"},
+    {'A', "C215", 'B', "BE"},
+    {'A', "C21500", 'B', "BE"},
+    {'A', "C215000", 'B', "BE"},
+    {'A', "C215000100", 'B', "BE"},
+    {'A', "C215000G", 'B', "BE"},
+    {'A', "C32100", 'B', "BE"},
 };
 
 /* Requests that change nothing, to each ID and to all. */
@@ -709,7 +796,74 @@ static void test_set_to_all(void)
     }
 }
 
-/* In standby a Set is refused, but Gets, power, date, tags and the erase work. */
+static void put_hex(char *text, const uint8_t *bytes, size_t n)
+{
+    *text = '\0';
+    for (size_t i = 0; i < n; i++)
+        snprintf(text + 2 * i, 3, "%02X", bytes[i]);
+}
+
+/* The numbers of a schedule write: the program, what it is to hold, and eight that are reserved. */
+enum { NUMBERS = 16, RESERVED = 8 };
+
+static int is_time(unsigned hour, unsigned minute)
+{
+    return (hour <= 23 && minute <= 59) || (hour == 24 && minute == 60);
+}
+
+/* What is kept of an input, or -1. */
+static int kept_input(unsigned input)
+{
+    return input == 0 ? 0 : input == 1 ? 1 : input == 3 ? 2 : input == 17 ? 3 : -1;
+}
+
+static int program_is_good(const uint8_t *n)
+{
+    static const uint8_t zeros[NUMBERS - RESERVED];
+
+    return n[0] < PROGRAMS && is_time(n[1], n[2]) && is_time(n[3], n[4]) && kept_input(n[5]) >= 0 && n[6] <= 0x7F && n[7] <= 7 &&
+           memcmp(n + RESERVED, zeros, sizeof zeros) == 0;
+}
+
+/* Puts a good program where it is expected. */
+static void expect_program(const uint8_t *n)
+{
+    for (int part = ON_HOUR; part < PARTS; part++)
+        put_part(expected, n[0], (enum part)part, part == PROGRAM_INPUT ? (unsigned)kept_input(n[5]) : n[1 + part]);
+}
+
+/* Writes a program; where it is good, it is read again. */
+static void try_program(const uint8_t *numbers)
+{
+    char digits[40], text[50];
+
+    put_hex(digits, numbers, NUMBERS);
+    snprintf(text, sizeof text, "C222%s", digits);
+    GIVE(request_to(own_address(), 'A', text));
+    if (program_is_good(numbers))
+        expect_program(numbers);
+    snprintf(text, sizeof text, "C322%02X%s", !program_is_good(numbers), digits);
+    check_reply(__LINE__, packet_of('0', own_address(), 'B', text));
+    if (!program_is_good(numbers))
+        return;
+    snprintf(text, sizeof text, "C321%s", digits);
+    EXCHANGE('A', (const char[]){'C', '2', '2', '1', digits[0], digits[1], '\0'}, 'B', text);
+}
+
+static void try_enable(unsigned program, unsigned enable)
+{
+    int is_good = program < PROGRAMS && enable <= 1;
+    char text[20], reply[20];
+
+    snprintf(text, sizeof text, "C215%02X%02X", program, enable);
+    snprintf(reply, sizeof reply, "C315%02X%02X%02X", !is_good, program, enable);
+    GIVE(request_to(own_address(), 'A', text));
+    if (is_good) /* FL bit 2, the lowest bit of the program's fourth byte */
+        put_bits(expected, 8 * (PROGRAMS_AT + PROGRAM_SIZE * program) + 31, 1, enable);
+    check_reply(__LINE__, packet_of('0', own_address(), 'B', reply));
+}
+
+/* In standby a Set is refused, but Gets, power, date, tags, programs and the erase work. */
 static void test_standby(void)
 {
     start_unused(2);
@@ -726,6 +880,9 @@ static void test_standby(void)
     expected[12] = 0x41;
     put_field(expected, TAG_LENGTH, 1);
     check_reply(__LINE__, packet_of('0', 'B', 'B', "F1110041"));
+    EXCHANGE('A', "C22103", 'B', "C32103183C183C0000000000000000000000");
+    try_program((const uint8_t[NUMBERS]){3, 7, 0, 23, 30, 17, 0x1F, 6});
+    try_enable(3, 0);
     GIVE(request_to('*', 'A', "C203D60001"));
     put_field(expected, POWER, 1);
     check_answer(__LINE__, BOARD_SILENT);
@@ -784,13 +941,6 @@ static void test_dates(void)
     EXCHANGE('A', "C21200010106000", 'B', null_text);
     EXCHANGE('A', "C212000101060000", 'B', null_text);
     EXCHANGE('A', "C2120001010600000000", 'B', null_text);
-}
-
-static void put_hex(char *text, const uint8_t *bytes, size_t n)
-{
-    *text = '\0';
-    for (size_t i = 0; i < n; i++)
-        snprintf(text + 2 * i, 3, "%02X", bytes[i]);
 }
 
 /* Writes a tag and reads it and the former one. */
@@ -858,6 +1008,109 @@ static void test_serials_and_models(void)
         EXCHANGE('A', "C216", 'B', text);
         EXCHANGE('A', "C217", 'B', model_text);
     }
+}
+
+/* Programs */
+
+static const uint8_t good_program[NUMBERS] = {2, 7, 0, 23, 30, 17, 0x1F, 6};
+
+/* Program 2, 07:00 to 23:30, input 17, Monday to Friday, every week and enabled, then disabled; and an unused board's program 0. */
+static void test_worked_program(void)
+{
+    static const uint8_t stored[PROGRAM_SIZE] = {0x38, 0x17, 0x7B, 0x3F, 0x80};
+    struct packet p;
+
+    start_unused(1);
+    p = packet_in_hex("01 30 41 30 41 30 38 02 43 32 32 31 30 30 03 7B 0D");
+    GIVE(p);
+    p = packet_of('0', 'A', 'B', "C32100183C183C0000000000000000000000");
+    CHECK(p.bytes[p.size - 2] == 0x75, "the check code of an unused program");
+    check_reply(__LINE__, p);
+    p = request_to('A', 'A', "C222020700171E111F060000000000000000");
+    CHECK(p.bytes[p.size - 2] == 0x72, "the check code of a schedule write");
+    GIVE(p);
+    memcpy(expected + PROGRAMS_AT + 2 * PROGRAM_SIZE, stored, sizeof stored);
+    p = packet_of('0', 'A', 'B', "C32200020700171E111F060000000000000000");
+    CHECK(p.bytes[p.size - 2] == 0x7E, "the check code of a schedule write's reply");
+    check_reply(__LINE__, p);
+    p = request_to('A', 'A', "C2150200");
+    CHECK(p.bytes[p.size - 2] == 0x07, "the check code of an enable write");
+    GIVE(p);
+    expected[PROGRAMS_AT + 2 * PROGRAM_SIZE + 3] = 0x3E;
+    p = packet_of('0', 'A', 'B', "C315000200");
+    CHECK(p.bytes[p.size - 2] == 0x07, "the check code of an enable write's reply");
+    check_reply(__LINE__, p);
+}
+
+/* Every value of each number, the others being good, on a board in use, whose spare bits stay as they are. */
+static void test_programs(void)
+{
+    start_used(3);
+    for (int place = 0; place < NUMBERS; place++) {
+        for (unsigned value = 0; value <= 255; value++) {
+            uint8_t numbers[NUMBERS];
+
+            memcpy(numbers, good_program, sizeof numbers);
+            numbers[place] = (uint8_t)value;
+            try_program(numbers);
+        }
+    }
+}
+
+/* Hours and minutes around their ends, together and in each program; 24 and 60 only with one another. */
+static void test_program_times(void)
+{
+    static const uint8_t hours[] = {0, 1, 23, 24, 25, 31, 255}, minutes[] = {0, 1, 59, 60, 61, 63, 255};
+
+    start_used(4);
+    for (size_t i = 0; i < COUNT(hours) * COUNT(minutes) * PROGRAMS; i++) {
+        uint8_t numbers[NUMBERS], hour = hours[i % COUNT(hours)], minute = minutes[i / COUNT(hours) % COUNT(minutes)];
+
+        memcpy(numbers, good_program, sizeof numbers);
+        numbers[0] = (uint8_t)(i / COUNT(hours) / COUNT(minutes));
+        numbers[1] = hour;
+        numbers[2] = minute;
+        try_program(numbers);
+        numbers[1] = good_program[1];
+        numbers[2] = good_program[2];
+        numbers[3] = hour;
+        numbers[4] = minute;
+        try_program(numbers);
+        numbers[1] = hour; /* the same time twice */
+        numbers[2] = minute;
+        try_program(numbers);
+    }
+}
+
+/* Every program that a number can name, read, enabled and disabled. */
+static void test_program_numbers(void)
+{
+    char text[10];
+
+    start_used(5);
+    for (unsigned program = 0; program <= 255; program++) {
+        snprintf(text, sizeof text, "C221%02X", program);
+        if (program >= PROGRAMS)
+            EXCHANGE('A', text, 'B', null_text);
+        for (unsigned enable = 0; enable <= 3; enable++)
+            try_enable(program, enable % 2);
+        for (unsigned enable = 2; enable <= 255; enable += program < PROGRAMS ? 1 : 100)
+            try_enable(program, enable);
+    }
+}
+
+/* To all boards the same is done, and nothing said. */
+static void test_programs_to_all(void)
+{
+    start_used(6);
+    EXPECT(GIVE(request_to('*', 'A', "C22100")), BOARD_SILENT);
+    EXPECT(GIVE(request_to('*', 'A', "C22107")), BOARD_SILENT);
+    expect_program(good_program);
+    EXPECT(GIVE(request_to('*', 'A', "C222020700171E111F060000000000000000")), BOARD_SILENT);
+    EXPECT(GIVE(request_to('*', 'A', "C222020700171E111F080000000000000000")), BOARD_SILENT);
+    put_part(expected, 2, FLAGS, 2);
+    EXPECT(GIVE(request_to('*', 'A', "C2150200")), BOARD_SILENT);
+    EXPECT(GIVE(request_to('*', 'A', "C2150702")), BOARD_SILENT);
 }
 
 /* Refusals 1 to 8 */
@@ -1095,7 +1348,7 @@ static void test_short_buffers(void)
     run_steps(__LINE__, 1, BOARD_ERASE_STEPS - 1);
     expect_all_short(__LINE__);
     step_into(__LINE__, 200);
-    expected[0] = 0x00;
+    expected[0] = MARK;
     check_reply(__LINE__, packet_of('0', 'A', 'F', erase_reply_text));
 }
 
@@ -1135,26 +1388,29 @@ static void test_stores_refused(void)
         }
     }
     for (int mark = 0; mark <= 255; mark++) {
-        int is_known = mark == 0x00 || mark == 0xE7;
+        int is_known = mark == OLD_MARK || mark == MARK || mark == ERASE_MARK;
 
         put_used(expected);
         expected[0] = (uint8_t)mark;
-        CHECK(start(1) == (is_known ? 0 : BOARD_REFUSED_NOT_A_STORE), "start on mark %02X", (unsigned)mark);
         CHECK(start(0) == (is_known ? BOARD_REFUSED_UNSOUND : BOARD_REFUSED_NOT_A_STORE), "start of ID 0 on mark %02X",
               (unsigned)mark);
+        CHECK(start(1) == (is_known ? 0 : BOARD_REFUSED_NOT_A_STORE), "start on mark %02X", (unsigned)mark);
     }
 }
 
-/* 12: identities out of range, on an unused store and on one whose erase is pending. */
+/* 12: identities out of range, on an unused store, on one without programs and on one whose erase is pending. */
 static void test_identities_refused(void)
 {
+    static const uint8_t marks[] = {OLD_MARK, MARK, ERASE_MARK};
     uint8_t text[32] = {0};
 
-    for (int mark = 0; mark <= 1; mark++) {
-        put_unused(expected);
-        expected[0] = mark ? 0xE7 : 0x00;
-        for (int id = 0; id <= 255; id++)
+    for (size_t mark = 0; mark < COUNT(marks); mark++) {
+        for (int id = 0; id <= 255; id++) {
+            put_unused(expected);
+            expected[0] = marks[mark];
             CHECK(start(id) == (id >= 1 && id <= 8 ? 0 : BOARD_REFUSED_UNSOUND), "ID %d", id);
+        }
+        expected[0] = marks[mark];
         for (size_t n = 0; n <= 32; n++) {
             int result = n <= 16 ? 0 : BOARD_REFUSED_UNSOUND;
 
@@ -1196,10 +1452,67 @@ static void test_fields(void)
             else
                 EXPECT_UNSOUND();
             CHECK(start(1) == (is_good ? 0 : BOARD_REFUSED_UNSOUND), "field %d: %u", field, value);
-            expected[0] = 0xE7;
+            expected[0] = OLD_MARK;
+            CHECK(start(1) == (is_good ? 0 : BOARD_REFUSED_UNSOUND), "field %d: %u, no programs", field, value);
+            expected[0] = ERASE_MARK;
             CHECK(start(1) == 0, "field %d: %u, erase pending", field, value);
         }
     }
+}
+
+/* 12: each hour with each minute that a program's bits can tell, at a start and under a running board; else only with mark 01h. */
+static void try_stored_time(unsigned program, enum part hour_part, unsigned hour, unsigned minute)
+{
+    int is_good = is_time(hour, minute);
+
+    put_part(expected, program, hour_part, hour);
+    put_part(expected, program, hour_part + 1, minute);
+    memcpy(board.store, expected, sizeof expected);
+    if (is_good)
+        EXPECT(GAP(), BOARD_WAITING);
+    else
+        EXPECT_REFUSAL(GAP(), BOARD_REFUSED_UNSOUND);
+    CHECK(start(1) == (is_good ? 0 : BOARD_REFUSED_UNSOUND), "program %u: %u:%u", program, hour, minute);
+    expected[0] = ERASE_MARK;
+    CHECK(start(1) == 0, "program %u: %u:%u, erase pending", program, hour, minute);
+    expected[0] = OLD_MARK;
+    CHECK(start(1) == 0, "program %u: %u:%u, no programs", program, hour, minute);
+}
+
+static void test_stored_programs(void)
+{
+    for (unsigned i = 0; i < 2 * PROGRAMS * 32 * 64; i++) {
+        enum part part = i % 2 == 0 ? ON_HOUR : OFF_HOUR;
+
+        if (i % 64 == 0)
+            start_used(1);
+        try_stored_time(i / 2 % PROGRAMS, part, i / 2 / PROGRAMS / 64, i / 2 / PROGRAMS % 64);
+    }
+    start_used(1);
+    put_part(board.store, 6, ON_HOUR, 25);
+    EXPECT_UNSOUND();
+}
+
+/* A start on 00h: unused programs, whatever stands in their place, and mark 01h; all other bytes stay. It is done once. */
+static void test_conversions(void)
+{
+    for (int round = 0; round < 200; round++) {
+        put_used(expected);
+        expected[0] = OLD_MARK;
+        if (round % 2 == 0)
+            random_bytes(expected + PROGRAMS_AT, PROGRAMS_END - PROGRAMS_AT);
+        if (round == 0)
+            memset(expected + PROGRAMS_AT, 0xFF, PROGRAMS_END - PROGRAMS_AT);
+        START(1);
+        EXCHANGE('A', "C22106", 'B', "C32106183C183C0000000000000000000000");
+        START(1);
+        try_program(good_program);
+        START(1);
+        EXCHANGE('A', "C22102", 'B', "C321020700171E111F060000000000000000");
+    }
+    start_used(1);
+    board.store[0] = OLD_MARK; /* no board runs on such a store */
+    EXPECT_UNSOUND();
 }
 
 /* A state of another size is no board: at a start behind 11, and at every call. */
@@ -1211,7 +1524,9 @@ static void test_state_sizes(void)
     for (size_t i = 0; i < COUNT(sizes); i++) {
         put_used(expected);
         CHECK(start_with(1, "", 0, "", 0, expected, BOARD_STORE_SIZE, sizes[i]) == BOARD_REFUSED_UNSOUND, "state of %zu", sizes[i]);
-        expected[0] = 0x01;
+        expected[0] = OLD_MARK;
+        CHECK(start_with(1, "", 0, "", 0, expected, BOARD_STORE_SIZE, sizes[i]) == BOARD_REFUSED_UNSOUND, "state of %zu", sizes[i]);
+        expected[0] = 0x02;
         CHECK(start_with(1, "", 0, "", 0, expected, BOARD_STORE_SIZE, sizes[i]) == BOARD_REFUSED_NOT_A_STORE, "state of %zu",
               sizes[i]);
         for (int pending = 0; pending <= 1; pending++) {
@@ -1279,9 +1594,9 @@ static void test_unsound_erases(void)
     EXPECT_UNSOUND();
     start_used(1);
     BEGIN_ERASE('A');
-    board.store[0] = 0x00;
+    board.store[0] = OLD_MARK;
     EXPECT_UNSOUND();
-    board.store[0] = 0x01;
+    board.store[0] = MARK;
     EXPECT_UNSOUND();
     for (int p = 1; p <= BOARD_ERASE_STEPS; p++) {
         start_used(1);
@@ -1338,6 +1653,7 @@ static void test_cuts(void)
             FINISH_ERASE(1, 0);
             START(1);
             EXCHANGE('A', "F012", 'B', "F112");
+            EXCHANGE('A', "C22106", 'B', "C32106183C183C0000000000000000000000");
         }
     }
     start_used(1);
@@ -1449,6 +1765,11 @@ static void test_packets(void)
     RUN(test_modes);
     RUN(test_dates);
     RUN(test_tags);
+    RUN(test_worked_program);
+    RUN(test_programs);
+    RUN(test_program_times);
+    RUN(test_program_numbers);
+    RUN(test_programs_to_all);
     RUN(test_serials_and_models);
     RUN(test_no_start);
     RUN(test_headers);
@@ -1467,6 +1788,8 @@ static void test_boards(void)
     RUN(test_stores_refused);
     RUN(test_identities_refused);
     RUN(test_fields);
+    RUN(test_stored_programs);
+    RUN(test_conversions);
     RUN(test_state_sizes);
     RUN(test_store_sizes);
     RUN(test_garbage_states);

@@ -3,7 +3,8 @@
  *
  * What is proved of a call is the plan of what it stores, and what the store holds at its end. A power cut keeps what was stored
  * until then, so the way there is tried here, with the archive that programs link. What is expected is worked out here: the bytes
- * from document 01, and their order, of which it says nothing but for an erase, from the definitions in crates/store/specs.
+ * from document 01 and document 02, and their order, of which these say nothing but for an erase and a conversion,
+ * from the definitions in crates/store/specs and crates/schedule/specs.
  *
  * The store lies in a page that may only be read. An instruction that stores there faults, and is then run twice by itself, from
  * the same registers: with each bit of the page turned over, and with the page as it was. A byte that it writes differs in one of
@@ -84,7 +85,7 @@ static void random_bytes(uint8_t *bytes, size_t n)
 
 /* Lists of stores */
 
-enum { MOST_STORES = 40, TAG_STORES = 34, ENTRIES = 64 };
+enum { MOST_STORES = 40, TAG_STORES = 34, CONVERSION_STORES = 36, PROGRAM_STORES = 5, ENTRIES = 64 };
 
 struct entry {
     long place;    /* of the first byte, counted from the beginning of the store */
@@ -399,15 +400,18 @@ static unsigned get_field(const uint8_t *store, int field)
     return value;
 }
 
-static void put_field(uint8_t *store, int field, unsigned value)
+static void put_bits(uint8_t *store, unsigned from, unsigned width, unsigned value)
 {
-    unsigned from = first_bit(field);
-
-    for (unsigned bit = from + fields[field].width; bit > from; value /= 2) {
+    for (unsigned bit = from + width; bit > from; value /= 2) {
         uint8_t mask = (uint8_t)(0x80 >> --bit % 8);
 
         store[bit / 8] = (uint8_t)(value % 2 ? store[bit / 8] | mask : store[bit / 8] & ~mask);
     }
+}
+
+static void put_field(uint8_t *store, int field, unsigned value)
+{
+    put_bits(store, first_bit(field), fields[field].width, value);
 }
 
 static unsigned random_value(int field)
@@ -415,7 +419,58 @@ static unsigned random_value(int field)
     return fields[field].first + below(fields[field].last - fields[field].first + 1);
 }
 
-static const uint8_t unused[BOARD_STORE_SIZE] = {0x00, 0x8C, 0x3C, 0xC9, 0x91, 0x4A, 0x0C, 0x00, 0x87};
+/* The marks: of a store without programs, of one with them, and while an erase is pending. */
+enum { OLD_MARK = 0x00, MARK = 0x01, ERASE_MARK = 0xE7 };
+
+/* Seven programs of five bytes each: ON_HOUR, ON_MIN, OFF_HOUR, OFF_MIN, INPUT, WEEK, FL and six spare bits. */
+enum { PROGRAMS = 7, PROGRAM_SIZE = 5, PROGRAMS_AT = 44, PARTS = 7, ENABLE_BIT = 31 };
+
+static const unsigned part_widths[PARTS] = {5, 6, 5, 6, 2, 7, 3};
+
+/* The unused board's bytes; make_unused puts the programs there. */
+static uint8_t unused[BOARD_STORE_SIZE] = {MARK, 0x8C, 0x3C, 0xC9, 0x91, 0x4A, 0x0C, 0x00, 0x87};
+
+/* The first byte of a program. */
+static unsigned program_place(unsigned program)
+{
+    return PROGRAMS_AT + PROGRAM_SIZE * program;
+}
+
+static void make_unused(void)
+{
+    static const uint8_t program[PROGRAM_SIZE] = {0xC7, 0x98, 0xF0, 0x00, 0x00};
+
+    for (unsigned k = 0; k < PROGRAMS; k++)
+        memcpy(unused + program_place(k), program, sizeof program);
+}
+
+static void put_program(uint8_t *store, unsigned program, const unsigned *parts)
+{
+    unsigned bit = 8 * program_place(program);
+
+    for (int part = 0; part < PARTS; part++) {
+        put_bits(store, bit, part_widths[part], parts[part]);
+        bit += part_widths[part];
+    }
+}
+
+/* A time of day, or none: hour 24 and minute 60. */
+static void random_time(unsigned *hour_and_minute)
+{
+    int is_set = !one_in(4);
+
+    hour_and_minute[0] = is_set ? below(24) : 24;
+    hour_and_minute[1] = is_set ? below(60) : 60;
+}
+
+static void put_random_program(uint8_t *store, unsigned program)
+{
+    unsigned parts[PARTS] = {0, 0, 0, 0, below(4), below(128), below(8)};
+
+    random_time(parts);
+    random_time(parts + 2);
+    put_program(store, program, parts);
+}
 
 static const struct setting {
     unsigned pair, largest;
@@ -448,7 +503,19 @@ static struct {
 } due;
 
 /* The kinds of calls that store, and how many of each were due. */
-enum kind { SET, POWER_WRITE, DATE_WRITE, TAG_WRITE, ACCEPTANCE, CLEARING, LAST_STEP, KINDS };
+enum kind {
+    SET,
+    POWER_WRITE,
+    DATE_WRITE,
+    TAG_WRITE,
+    PROGRAM_WRITE,
+    ENABLE_WRITE,
+    ACCEPTANCE,
+    CLEARING,
+    LAST_STEP,
+    CONVERSION,
+    KINDS
+};
 
 static unsigned long tried[KINDS];
 
@@ -507,7 +574,7 @@ static void expect_begin(void)
     model.is_owed = due.answer == BOARD_REPLY;
     model.place = 1;
     due.answer = BOARD_BEGUN;
-    plan(ACCEPTANCE, 0, 0xE7);
+    plan(ACCEPTANCE, 0, ERASE_MARK);
 }
 
 static void expect_setting(const struct setting *setting, long value)
@@ -581,6 +648,53 @@ static void expect_tag(const uint8_t *digits, size_t n)
     CHECK(due.plan.count == TAG_STORES, "a tag write of %zu stores planned", due.plan.count);
 }
 
+static int is_time(long hour, long minute)
+{
+    return (hour >= 0 && hour <= 23 && minute >= 0 && minute <= 59) || (hour == 24 && minute == 60);
+}
+
+/* What is kept of an input, or -1. */
+static long kept_input(long input)
+{
+    return input == 0 ? 0 : input == 1 ? 1 : input == 3 ? 2 : input == 17 ? 3 : -1;
+}
+
+/* All five bytes of the program, whether they change or not; its spare bits stay. */
+static void expect_program(const uint8_t *digits)
+{
+    uint8_t changed[BOARD_STORE_SIZE];
+    unsigned parts[PARTS];
+    long n[16];
+
+    for (int i = 0; i < 16; i++) {
+        n[i] = number(digits + 2 * i, 2);
+        if (n[i] < 0 || (i >= 8 && n[i] != 0))
+            return;
+    }
+    if (n[0] >= PROGRAMS || !is_time(n[1], n[2]) || !is_time(n[3], n[4]) || kept_input(n[5]) < 0 || n[6] > 0x7F || n[7] > 7)
+        return;
+    for (int part = 0; part < PARTS; part++)
+        parts[part] = (unsigned)(part == 4 ? kept_input(n[5]) : n[1 + part]);
+    memcpy(changed, model.store, sizeof changed);
+    put_program(changed, (unsigned)n[0], parts);
+    plan_range(PROGRAM_WRITE, program_place((unsigned)n[0]), changed + program_place((unsigned)n[0]), PROGRAM_SIZE);
+}
+
+/* The one byte with FL bit 2. */
+static void expect_enable(const uint8_t *digits)
+{
+    long program = number(digits, 2), enable = number(digits + 2, 2);
+    uint8_t changed[BOARD_STORE_SIZE];
+    unsigned bit;
+
+    if (program < 0 || program >= PROGRAMS || enable < 0 || enable > 1)
+        return;
+    bit = 8 * program_place((unsigned)program) + ENABLE_BIT;
+    memcpy(changed, model.store, sizeof changed);
+    put_bits(changed, bit, 1, (unsigned)enable);
+    plan(ENABLE_WRITE, bit / 8, changed[bit / 8]);
+}
+
 /* A good packet. What is none of these stores nothing: reads, values that are not accepted, what gets NULL. */
 static void expect_packet(const uint8_t *packet, size_t size)
 {
@@ -598,6 +712,10 @@ static void expect_packet(const uint8_t *packet, size_t size)
         expect_date(text + 4);
     if (n >= 4 && n <= 36 && n % 2 == 0 && memcmp(text, "F011", 4) == 0)
         expect_tag(text + 4, (n - 4) / 2);
+    if (n == 36 && memcmp(text, "C222", 4) == 0)
+        expect_program(text + 4);
+    if (n == 8 && memcmp(text, "C215", 4) == 0)
+        expect_enable(text + 4);
 }
 
 /* L, or 0 where it is bad. */
@@ -683,7 +801,7 @@ static void expect_erasing(void)
         return;
     }
     expect(model.is_owed ? BOARD_REPLY : BOARD_ENDED, 0);
-    plan(LAST_STEP, 0, 0x00);
+    plan(LAST_STEP, 0, MARK);
     model.is_pending = 0;
 }
 
@@ -697,12 +815,20 @@ static void expect_step(size_t room)
         expect_erasing();
 }
 
-/* A start on what the store holds. Its result 0 is told as waiting here. */
+/*
+ * A start on what the store holds. Its result 0 is told as waiting here. A store without programs gets unused ones, and its mark
+ * behind them.
+ */
 static void expect_start(void)
 {
     expect(BOARD_WAITING, 0);
+    if (model.store[0] == OLD_MARK) {
+        plan_range(CONVERSION, PROGRAMS_AT, unused + PROGRAMS_AT, PROGRAMS * PROGRAM_SIZE);
+        plan(CONVERSION, 0, MARK);
+        CHECK(due.plan.count == CONVERSION_STORES, "a conversion of %zu stores planned", due.plan.count);
+    }
     model.len = 0;
-    model.is_pending = model.store[0] == 0xE7;
+    model.is_pending = model.store[0] == ERASE_MARK;
     model.is_owed = 0;
     model.place = 1;
 }
@@ -834,16 +960,26 @@ static void start_again(int line)
 
 #define START_AGAIN() start_again(__LINE__)
 
-/* A board in use and on: random fields within their ranges, anything in tags, spare bits and spare bytes. */
-static void start_used(int id)
+/*
+ * The store of a board in use and on: random fields and programs within their ranges, anything in tags, spare bits and spare bytes,
+ * and with mark 00h anything in place of the programs.
+ */
+static void put_used(uint8_t mark)
 {
-    model.id = id;
     random_bytes(model.store, sizeof model.store);
-    model.store[0] = 0x00;
+    model.store[0] = mark;
     for (int field = 0; field < FIELDS; field++)
         put_field(model.store, field, random_value(field));
     put_field(model.store, POWER, 1);
+    for (unsigned program = 0; mark == MARK && program < PROGRAMS; program++)
+        put_random_program(model.store, program);
     put_store(model.store);
+}
+
+static void start_used(int id)
+{
+    model.id = id;
+    put_used(MARK);
     START_AGAIN();
 }
 
@@ -876,13 +1012,13 @@ static void run_instructions(uint8_t *at)
 
 static void test_watch(void)
 {
-    static const struct entry planned[] = {{64, 1, 0x00}, {65, 2, 0x00}, {67, 4, 0x00}, {71, 8, 0x00}, {79, 16, 0x00},
-                                           {96, 0, 0x01}, {99, 0, 0x41}, {64, 0, 0x42}, {65, 0, 0x42}};
+    static const struct entry planned[] = {{80, 1, 0x00},  {81, 2, 0x00},  {83, 4, 0x00}, {87, 8, 0x00}, {95, 16, 0x00},
+                                           {112, 0, 0x01}, {115, 0, 0x41}, {80, 0, 0x42}, {81, 0, 0x42}};
 
     memcpy(model.store, unused, sizeof model.store);
     put_store(model.store);
     begin_call();
-    run_instructions(watch.store + 64);
+    run_instructions(watch.store + 80); /* where an unused store has zeros */
     due.plan.count = 0;
     for (size_t i = 0; i < COUNT(planned); i++)
         add(&due.plan, planned[i]);
@@ -937,6 +1073,32 @@ static struct request random_tag(void)
     return request;
 }
 
+/* Most programs are good; in some, one number is outside, at the edges more often than elsewhere. */
+static struct request random_program(void)
+{
+    static const unsigned inputs[] = {0, 1, 3, 17}, wrong[] = {1, 2, 4, 7, 8, 24, 25, 59, 60, 61, 128, 255};
+    unsigned n[16] = {below(PROGRAMS), 0, 0, 0, 0, inputs[below(COUNT(inputs))], below(128), below(8)};
+    struct request request = request_of('A', "C222");
+
+    random_time(n + 1);
+    random_time(n + 3);
+    if (one_in(4))
+        n[below(COUNT(n))] = wrong[below(COUNT(wrong))];
+    for (size_t i = 0; i < COUNT(n); i++)
+        snprintf(request.text + 4 + 2 * i, 3, "%02X", n[i]);
+    return request;
+}
+
+static struct request random_enable(void)
+{
+    return request_of('A', "C215%02X%02X", below(one_in(8) ? 256 : PROGRAMS), below(one_in(8) ? 256 : 2));
+}
+
+static struct request random_program_read(void)
+{
+    return request_of('A', "C221%02X", below(one_in(8) ? 256 : PROGRAMS + 1));
+}
+
 static struct request random_read(void)
 {
     static const char *const texts[] = {"01D6", "C211", "C216", "C217", "F010", "F012"};
@@ -962,9 +1124,10 @@ static struct request random_erase(void)
 
 static struct request random_request(void)
 {
-    static struct request (*const kinds[])(void) = {random_get,   random_set,   random_set,  random_set,  random_set, random_set,
-                                                    random_set,   random_power, random_date, random_date, random_tag, random_read,
-                                                    random_power, random_read,  random_null, random_erase};
+    static struct request (*const kinds[])(void) = {
+        random_get,   random_set,   random_set,     random_set,     random_set,    random_set,         random_set,
+        random_power, random_date,  random_date,    random_tag,     random_read,   random_power,       random_read,
+        random_null,  random_erase, random_program, random_program, random_enable, random_program_read};
 
     return kinds[below(COUNT(kinds))]();
 }
@@ -1022,15 +1185,17 @@ static void make_unsound(void)
         memset(board.state, one_in(2) ? 0x00 : 0xFF, sizeof board.state);
         break;
     case 3:
-        model.store[0] ^= (uint8_t)(one_in(2) ? 0xE7 : 0x55); /* the other mark, or none */
+        model.store[0] = (const uint8_t[]){OLD_MARK, model.is_pending ? MARK : ERASE_MARK, 0x55}[below(3)];
         break;
     default:
-        if (!model.is_pending)
+        if (!model.is_pending && one_in(2))
+            put_bits(model.store, 8 * program_place(below(PROGRAMS)), 5, 25 + below(7));
+        else if (!model.is_pending)
             put_field(model.store, settings[below(COUNT(settings))].field, 0x7F);
         else if (model.place > 1)
             model.store[1 + below(model.place - 1)] ^= 0x10;
         else
-            model.store[0] = 0x01;
+            model.store[0] = 0x02;
         break;
     }
     put_store(model.store);
@@ -1063,7 +1228,25 @@ static void call_unsound(void)
     board = kept_board;
 }
 
-enum fault { SHORT_STORE, OTHER_MARK, OTHER_ID, LONG_SERIAL, SHORT_STATE, BACKLIGHT_127, FAULTS };
+enum fault { SHORT_STORE, OTHER_MARK, OTHER_ID, LONG_SERIAL, SHORT_STATE, BACKLIGHT_127, HOUR_25, FAULTS };
+
+/* What is wrong with the store, where it is that. With mark 00h nothing is stored in it either. */
+static void put_fault(enum fault fault)
+{
+    if (one_in(2) && fault != HOUR_25)
+        put_used(OLD_MARK);
+    if (fault == OTHER_MARK)
+        model.store[0] = 0x5A;
+    if (fault == BACKLIGHT_127) {
+        model.store[0] = one_in(2) ? OLD_MARK : MARK;
+        model.store[1] |= 0xFE;
+    }
+    if (fault == HOUR_25) {
+        put_used(MARK);
+        put_bits(model.store, 8 * program_place(below(PROGRAMS)), 5, 25);
+    }
+    put_store(model.store);
+}
 
 /* A start that is refused for its store, its identity or its state; the board goes on as it was. */
 static void call_refused_start(void)
@@ -1072,13 +1255,7 @@ static void call_refused_start(void)
     uint8_t kept_store[BOARD_STORE_SIZE];
 
     memcpy(kept_store, model.store, sizeof kept_store);
-    if (fault == OTHER_MARK)
-        model.store[0] = 0x5A;
-    if (fault == BACKLIGHT_127) {
-        model.store[0] = 0x00;
-        model.store[1] |= 0xFE;
-    }
-    put_store(model.store);
+    put_fault(fault);
     expect_refusal(fault <= OTHER_MARK ? BOARD_REFUSED_NOT_A_STORE : BOARD_REFUSED_UNSOUND);
     board.store_len -= fault == SHORT_STORE;
     board.state_len -= fault == SHORT_STATE;
@@ -1160,6 +1337,10 @@ static void test_random_calls(void)
     for (int i = 0; i < PACKETS; i++) {
         if (i % 400 == 0)
             start_used(1 + (int)below(8));
+        if (i % 100 == 50) {
+            put_used(OLD_MARK);
+            START_AGAIN();
+        }
         give_random();
         run_pending();
     }
@@ -1174,6 +1355,11 @@ static struct packet packet_left;
 static void give_packet(void)
 {
     give(packet_left);
+}
+
+static void start_now(void)
+{
+    START_AGAIN();
 }
 
 static void run_steps(void)
@@ -1243,8 +1429,9 @@ static void give_both(struct packet p)
 }
 
 static const struct request replayed[] = {
-    {'C', "0010"}, {'C', "0060"},     {'C', "F001"},   {'A', "01D6"},       {'A', "C211"}, {'A', "C216"}, {'A', "F010"},
-    {'A', "F012"}, {'E', "00930011"}, {'A', "F01141"}, {'A', "C203D60004"}, {'C', "0093"}, {'A', "F010"}, {'A', "F012"},
+    {'C', "0010"}, {'C', "0060"}, {'C', "F001"},     {'A', "01D6"},   {'A', "C211"},       {'A', "C216"},
+    {'A', "F010"}, {'A', "F012"}, {'E', "00930011"}, {'A', "F01141"}, {'A', "C203D60004"}, {'C', "0093"},
+    {'A', "F010"}, {'A', "F012"}, {'A', "C22100"},   {'A', "C22106"}, {'A', "C2150601"},   {'A', "C22106"},
 };
 
 /* The board is as one that was never used. */
@@ -1274,7 +1461,7 @@ static void try_erase_left(int to_all, size_t k, size_t j)
     memcpy(stored, model.store, sizeof stored);
     LEAVE_AT(k, run_erase);
     if (k > 1) {
-        stored[0] = 0xE7;
+        stored[0] = ERASE_MARK;
         memcpy(stored + 1, unused + 1, k - 2);
     }
     CHECK(memcmp(board.store, stored, sizeof stored) == 0, "left at store %zu: another store", k);
@@ -1295,7 +1482,7 @@ static void try_erase_left(int to_all, size_t k, size_t j)
 
 static int at_end; /* whether the store is at the end of its page or at the beginning */
 
-/* Every store of an erase: E7h, 127 bytes, 00h; to the board and to all, left once and twice. */
+/* Every store of an erase: E7h, 127 bytes, 01h; to the board and to all, left once and twice. */
 static void test_erases_left(void)
 {
     for (size_t k = 1; k <= 1 + BOARD_ERASE_STEPS; k++) {
@@ -1326,9 +1513,30 @@ static void test_writes_left(void)
     try_write_left(tag_request(0), TAG_STORES);
     try_write_left(tag_request(7), TAG_STORES);
     try_write_left(tag_request(16), TAG_STORES);
-    try_write_left(request_of('A', "C2121A0B10010C1E00"), 5); /* a date, in bytes 6 to 10 */
-    try_write_left(request_of('E', "02750021"), 2);           /* PIP V, in bytes 3 and 4 */
-    try_write_left(request_of('A', "C203D60004"), 1);         /* power, in byte 6 */
+    try_write_left(request_of('A', "C2121A0B10010C1E00"), 5);                                /* a date, in bytes 6 to 10 */
+    try_write_left(request_of('E', "02750021"), 2);                                          /* PIP V, in bytes 3 and 4 */
+    try_write_left(request_of('A', "C203D60004"), 1);                                        /* power, in byte 6 */
+    try_write_left(request_of('A', "C222000700171E111F060000000000000000"), PROGRAM_STORES); /* bytes 44 to 48 */
+    try_write_left(request_of('A', "C22206183C183C0000000000000000000000"), PROGRAM_STORES); /* bytes 74 to 78 */
+    try_write_left(request_of('A', "C2150501"), 1);                                          /* FL bit 2 of program 5, in byte 72 */
+}
+
+/*
+ * A start on a store without programs, left at each of its stores. The supply holds up for all of them; where it would not, the
+ * mark would still be the old one, and the next start would make all stores again.
+ */
+static void test_conversions_left(void)
+{
+    for (size_t k = 1; k <= CONVERSION_STORES; k++) {
+        model.id = 1 + (int)below(8);
+        put_used(OLD_MARK);
+        LEAVE_AT(k, start_now);
+        CHECK(watch.seen.count == k - 1 && model.store[0] == OLD_MARK, "left at store %zu, and %zu were made", k, watch.seen.count);
+        START_AGAIN();
+        CHECK(watch.seen.count == CONVERSION_STORES, "%zu stores behind a start that was left", watch.seen.count);
+        START_AGAIN();
+        CHECK(watch.seen.count == 0, "%zu stores of a start on mark 01h", watch.seen.count);
+    }
 }
 
 #define RUN(test) (subject = #test, test())
@@ -1342,12 +1550,14 @@ static void test_all(void)
     RUN(test_random_calls);
     RUN(test_erases_left);
     RUN(test_writes_left);
+    RUN(test_conversions_left);
 }
 
 int main(void)
 {
     random_state = seed;
     subject = "board_stores";
+    make_unused();
     begin_watch();
     for (at_end = 0; at_end <= 1; at_end++)
         test_all();

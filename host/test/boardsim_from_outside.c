@@ -1,8 +1,9 @@
 /*
  * Tries boardsim as a program: on its line, on its store file, and killed at any moment.
  *
- *   boardsim_from_outside PROGRAM FOLDER behaviour   options, refused stores, one client at a time, gaps, erases, the log
- *   boardsim_from_outside PROGRAM FOLDER kills       300 erases killed at random moments; each start after that finishes the erase
+ *   boardsim_from_outside PROGRAM FOLDER behaviour   options, refused and old stores, one client at a time, gaps, erases, the log
+ *   boardsim_from_outside PROGRAM FOLDER kills       300 erases killed at random moments; each start after that finishes the erase;
+ *                                                    starts killed that make a store or convert one
  *   boardsim_from_outside PROGRAM FOLDER junk        a million random bytes; a thousand packets with one byte damaged
  *
  * FOLDER is for store files. A failure ends the program with status 1 and a sentence.
@@ -134,6 +135,23 @@ static const uint8_t *unused_store(void)
 
     REQUIRE(board_unused(unused, sizeof unused) == 0, "no unused store");
     return unused;
+}
+
+/* The marks: of a store without programs, of one with them, and while an erase is pending. */
+enum { OLD_MARK = 0x00, MARK = 0x01, ERASE_MARK = 0xE7 };
+
+enum { PROGRAMS_AT = 44, PROGRAMS_END = 79 };
+
+/* A store without programs, which holds anything in their place, and what a start makes of it. */
+static void make_old_store(uint8_t *old, uint8_t *converted)
+{
+    memcpy(converted, unused_store(), BOARD_STORE_SIZE);
+    for (size_t i = PROGRAMS_END; i < BOARD_STORE_SIZE; i++)
+        converted[i] = (uint8_t)random_number();
+    memcpy(old, converted, BOARD_STORE_SIZE);
+    for (size_t i = PROGRAMS_AT; i < PROGRAMS_END; i++)
+        old[i] = (uint8_t)random_number();
+    old[0] = OLD_MARK;
 }
 
 static void expect_store(int line, const uint8_t *expected)
@@ -402,7 +420,7 @@ static void exchange(int code_line, int line, int type, const char *text, int re
 
 static const char erase_text[] = "F0010001", erase_reply[] = "00F0010100010001", backlight_unused[] = "0000100000640046";
 
-/* Settings, a date and two tags, so that there is something to erase. */
+/* Settings, a date, two tags and a program, so that there is something to erase. */
 static void use_board(int line)
 {
     EXCHANGE(line, 'E', "00100064", 'F', "0000100000640064");
@@ -410,6 +428,7 @@ static void use_board(int line)
     EXCHANGE(line, 'A', "C2121A0B0F00171E00", 'B', "C312001A0B0F00171E00");
     EXCHANGE(line, 'A', "F011486F74656C20353133", 'B', "F11100486F74656C20353133");
     EXCHANGE(line, 'A', "F011526F6F6D20313034", 'B', "F11100526F6F6D20313034");
+    EXCHANGE(line, 'A', "C222020700171E111F060000000000000000", 'B', "C32200020700171E111F060000000000000000");
 }
 
 /* The reply of an unused board to everything that was used. */
@@ -420,6 +439,7 @@ static void expect_unused(int line)
     EXCHANGE(line, 'A', "C211", 'B', "C31100010106000000");
     EXCHANGE(line, 'A', "F010", 'B', "F110");
     EXCHANGE(line, 'A', "F012", 'B', "F112");
+    EXCHANGE(line, 'A', "C22102", 'B', "C32102183C183C0000000000000000000000");
 }
 
 /* ---- behaviour */
@@ -491,15 +511,19 @@ static void try_stores(void)
     expect_store_refused(bytes, 0, "a store of 0 bytes");
     expect_store_refused(bytes, 127, "a store of 127 bytes");
     expect_store_refused(bytes, 129, "a store of 129 bytes");
-    bytes[0] = 0x01;
-    expect_store_refused(bytes, 128, "mark 01h");
-    bytes[0] = 0x00;
+    bytes[0] = 0x02;
+    expect_store_refused(bytes, 128, "mark 02h");
+    bytes[0] = MARK;
+    bytes[PROGRAMS_AT] = 0xFF;
+    expect_store_refused(bytes, 128, "hour 31 in a program");
     bytes[1] = 0xFF;
     expect_store_refused(bytes, 128, "backlight 127");
-    bytes[0] = 0xE7;
+    bytes[0] = OLD_MARK;
+    expect_store_refused(bytes, 128, "backlight 127, and no programs");
+    bytes[0] = ERASE_MARK;
     write_store(bytes, 128);
     child = START(NULL, "--pty"); /* with E7h no field matters, and the erase is finished */
-    wait_for_mark(0x00);
+    wait_for_mark(MARK);
     EXPECT_STORE(unused_store());
     REQUIRE(STATUS(BOARD_1, "--pty") == 3, "two boards on one store");
     stop_board(&child);
@@ -648,7 +672,7 @@ static void try_idle_clients(void)
     for (ssize_t sent = 0; sent >= 0;) /* until nothing more can be sent, since no reply is taken */
         sent = write(line, request.bytes, request.size);
     REQUIRE(errno == EAGAIN, "can't send");
-    wait_ms(1500);
+    wait_ms(3000); /* the board first takes what is on its way */
     next = open_connection(&child);
     EXCHANGE(next, 'C', "0010", 'D', backlight_unused);
     close(next);
@@ -757,20 +781,20 @@ static void try_erases(void)
 
     use_board(line);
     send_request(line, 'A', 'E', erase_text);
-    wait_for_mark(0xE7);
+    wait_for_mark(ERASE_MARK);
     send_request(line, 'A', 'C', "0010");
     EXPECT_REPLY(line, 'F', erase_reply);
     expect_silence(line, 150);
     expect_unused(line);
     use_board(line);
     send_request(line, '*', 'E', erase_text);
-    wait_for_mark(0xE7);
+    wait_for_mark(ERASE_MARK);
     stop_board(&child);
     close(line);
-    REQUIRE(stored_mark() == 0xE7, "an erase ended too soon");
+    REQUIRE(stored_mark() == ERASE_MARK, "an erase ended too soon");
     child = START(NULL, "--pty");
     line = open_device(&child);
-    wait_for_mark(0x00);
+    wait_for_mark(MARK);
     EXPECT_STORE(unused_store());
     expect_unused(line);
     close(line);
@@ -838,6 +862,35 @@ static void try_log(void)
     unlink(log);
 }
 
+/* A store without programs is converted by the start, before the board answers; one line says so, and the next start says nothing.
+ */
+static void try_old_store(void)
+{
+    static const char *const lines[] = {"boardsim: the store "};
+    uint8_t old[BOARD_STORE_SIZE], converted[BOARD_STORE_SIZE];
+    char log[4100];
+    struct child child;
+    int line;
+
+    snprintf(log, sizeof log, "%s.log", store_path);
+    make_old_store(old, converted);
+    write_store(old, sizeof old);
+    child = START(log, "--pty");
+    EXPECT_STORE(converted);
+    line = open_device(&child);
+    EXCHANGE(line, 'A', "C22106", 'B', "C32106183C183C0000000000000000000000");
+    close(line);
+    stop_board(&child);
+    EXPECT_STORE(converted);
+    expect_log(log, lines, COUNT(lines));
+    child = START(log, "--pty");
+    stop_board(&child);
+    EXPECT_STORE(converted);
+    expect_log(log, lines, 0);
+    unlink(log);
+    remove_store();
+}
+
 /* SIGINT ends it as SIGTERM does. */
 static void try_interrupt(void)
 {
@@ -863,6 +916,7 @@ static void try_behaviour(void)
     try_many_requests();
     try_erases();
     try_log();
+    try_old_store();
     try_interrupt();
     printf("boardsim: options, stores, clients, gaps, %d requests at once, erases and log as they should be\n", MANY);
 }
@@ -878,7 +932,7 @@ static void expect_partly_erased(const uint8_t *before)
     uint8_t now[200];
     size_t place = 1;
 
-    REQUIRE(read_store(now) == BOARD_STORE_SIZE && now[0] == 0xE7, "no erase in the store file");
+    REQUIRE(read_store(now) == BOARD_STORE_SIZE && now[0] == ERASE_MARK, "no erase in the store file");
     while (place < BOARD_STORE_SIZE && now[place] == unused[place])
         place++;
     REQUIRE(memcmp(now + place, before + place, BOARD_STORE_SIZE - place) == 0, "bytes behind %zu changed", place);
@@ -892,7 +946,7 @@ static bool kill_again(void)
 
     wait_us(random_below(110000));
     kill_board(&child);
-    caught = stored_mark() == 0xE7;
+    caught = stored_mark() == ERASE_MARK;
     return caught;
 }
 
@@ -902,7 +956,7 @@ static void finish_erase(void)
     struct child child = START(NULL, "--pty");
     int line = open_device(&child);
 
-    wait_for_mark(0x00);
+    wait_for_mark(MARK);
     EXPECT_STORE(unused_store());
     expect_unused(line);
     close(line);
@@ -913,15 +967,13 @@ static void finish_erase(void)
 /* One erase of a board in use, killed once or twice; says how often it was caught in the middle. */
 static int killed_erase(bool twice)
 {
-    uint8_t before[200];
+    uint8_t before[200], old[BOARD_STORE_SIZE];
     struct child child;
     int line, caught = 0;
 
-    memcpy(before, unused_store(), BOARD_STORE_SIZE);
-    for (size_t i = 44; i < BOARD_STORE_SIZE; i++)
-        before[i] = (uint8_t)random_number();
-    write_store(before, BOARD_STORE_SIZE);
-    child = START(NULL, "--pty", "--step-ms", "1");
+    make_old_store(old, before);
+    write_store(random_below(4) == 0 ? old : before, BOARD_STORE_SIZE);
+    child = START("/dev/null", "--pty", "--step-ms", "1");
     line = open_device(&child);
     use_board(line);
     REQUIRE(read_store(before) == BOARD_STORE_SIZE, "no store");
@@ -930,7 +982,7 @@ static int killed_erase(bool twice)
     wait_us(random_below(128000));
     kill_board(&child);
     close(line);
-    if (stored_mark() == 0xE7) {
+    if (stored_mark() == ERASE_MARK) {
         caught++;
         expect_partly_erased(before);
         caught += twice && kill_again();
@@ -956,18 +1008,40 @@ static int killed_new_store(void)
     return n != -1;
 }
 
+/* A start converts a store file whole or not at all, wherever a kill comes. */
+static int killed_conversion(void)
+{
+    char *words[WORDS] = {(char *)program, BOARD_1, "--pty"};
+    uint8_t old[BOARD_STORE_SIZE], converted[BOARD_STORE_SIZE], bytes[200];
+    struct child child;
+    bool is_converted;
+
+    make_old_store(old, converted);
+    write_store(old, sizeof old);
+    child = start_words("/dev/null", words);
+    wait_us(random_below(2500));
+    kill_board(&child);
+    REQUIRE(read_store(bytes) == BOARD_STORE_SIZE, "the store file has another size");
+    is_converted = memcmp(bytes, converted, sizeof converted) == 0;
+    REQUIRE(is_converted || memcmp(bytes, old, sizeof old) == 0, "a store file that is converted in part");
+    return is_converted;
+}
+
 static void try_kills(void)
 {
-    int caught = 0, made = 0;
+    int caught = 0, made = 0, converted = 0;
 
     for (int i = 0; i < ERASES; i++)
         caught += killed_erase(i % 3 == 0);
     REQUIRE(caught >= ERASES / 2, "only %d kills came in the middle of an erase", caught);
     for (int i = 0; i < NEW_STORES; i++)
         made += killed_new_store();
+    for (int i = 0; i < NEW_STORES; i++)
+        converted += killed_conversion();
     printf("boardsim: %d erases killed, %d times in the middle, each finished by the next start; seed %llX\n", ERASES, caught,
            (unsigned long long)SEED);
     printf("boardsim: %d starts without a store killed, %d with one made, none with half of one\n", NEW_STORES, made);
+    printf("boardsim: %d starts on an old store killed, %d with it converted, none with a part of it\n", NEW_STORES, converted);
 }
 
 /* ---- junk */
@@ -1005,7 +1079,8 @@ static struct packet damaged_packet(void)
     static const struct {
         int type;
         const char *text;
-    } good[] = {{'E', "00100001"}, {'E', "F0010001"}, {'C', "0010"}, {'A', "C203D60004"}, {'A', "F01141424344"}, {'A', "01D6"}};
+    } good[] = {{'E', "00100001"},     {'E', "F0010001"}, {'C', "0010"},     {'A', "C203D60004"},
+                {'A', "F01141424344"}, {'A', "01D6"},     {'A', "C2150001"}, {'A', "C222020700171E111F060000000000000000"}};
     size_t which = random_below(COUNT(good));
     struct packet p = packet_of(random_below(3) == 0 ? '*' : 'A', '0', good[which].type, good[which].text);
 

@@ -1,5 +1,5 @@
 /*
- * Tries every function of station.h. What is expected is worked out here from document 01.
+ * Tries every function of station.h. What is expected is worked out here from document 01, and of schedules from document 02.
  *
  * No sanitizer sees into the library, so in one round every buffer lent to it begins right behind a page that may not be touched,
  * and in another it ends right before one: a read or a write there ends the program. What lies on the other side is compared.
@@ -178,17 +178,22 @@ enum kind {
     MODEL_READ,
     TAG_READ,
     FORMER_TAG_READ,
-    TAG_WRITE
+    TAG_WRITE,
+    SCHEDULE_READ,
+    SCHEDULE_WRITE,
+    SCHEDULE_ENABLE
 };
 
-static const char *const kinds[] = {"get",         "set",        "power read", "power control",   "date read", "date write",
-                                    "serial read", "model read", "tag read",   "former tag read", "tag write"};
+static const char *const kinds[] = {"get",        "set",           "power read",     "power control",  "date read",
+                                    "date write", "serial read",   "model read",     "tag read",       "former tag read",
+                                    "tag write",  "schedule read", "schedule write", "schedule enable"};
 
 struct request {
     enum kind kind;
     uint8_t page, code;
     uint16_t value; /* a mode too */
     uint8_t date[7];
+    uint8_t program[8]; /* its number and its fields; for an enable write its number and the enable */
     size_t tag_len;
     const char *tag;
     char type;
@@ -211,11 +216,23 @@ static const struct request every_request[] = {
     {.kind = TAG_WRITE, .tag_len = 0, .tag = "", .type = 'A', .text = "F011"},
     {.kind = TAG_WRITE, .tag_len = 4, .tag = "\x00\x0D\xFF\x41", .type = 'A', .text = "F011000DFF41"},
     {.kind = TAG_WRITE, .tag_len = 16, .tag = "0123456789ABCDEF", .type = 'A', .text = "F01130313233343536373839414243444546"},
+    {.kind = SCHEDULE_READ, .program = {0}, .type = 'A', .text = "C22100"},
+    {.kind = SCHEDULE_READ, .program = {6}, .type = 'A', .text = "C22106"},
+    {.kind = SCHEDULE_WRITE,
+     .program = {2, 7, 0, 23, 30, 17, 0x1F, 6},
+     .type = 'A',
+     .text = "C222020700171E111F060000000000000000"},
+    {.kind = SCHEDULE_WRITE,
+     .program = {6, 24, 60, 24, 60, 0, 0x7F, 7},
+     .type = 'A',
+     .text = "C22206183C183C007F070000000000000000"},
+    {.kind = SCHEDULE_ENABLE, .program = {0, 1}, .type = 'A', .text = "C2150001"},
+    {.kind = SCHEDULE_ENABLE, .program = {6, 0}, .type = 'A', .text = "C2150600"},
 };
 
 static uint8_t encode(const struct request *r, uint16_t dest, uint8_t *out, size_t out_len, size_t *size)
 {
-    const uint8_t *d = r->date;
+    const uint8_t *d = r->date, *p = r->program;
 
     switch (r->kind) {
     case GET:
@@ -240,6 +257,12 @@ static uint8_t encode(const struct request *r, uint16_t dest, uint8_t *out, size
         return station_encode_former_tag_read(dest, out, out_len, size);
     case TAG_WRITE:
         return station_encode_tag_write(dest, lend_copy(TAG, r->tag, r->tag_len), r->tag_len, out, out_len, size);
+    case SCHEDULE_READ:
+        return station_encode_schedule_read(dest, p[0], out, out_len, size);
+    case SCHEDULE_WRITE:
+        return station_encode_schedule_write(dest, p[0], p[1], p[2], p[3], p[4], p[5], p[6], p[7], out, out_len, size);
+    case SCHEDULE_ENABLE:
+        return station_encode_schedule_enable(dest, p[0], p[1], out, out_len, size);
     }
     return 255;
 }
@@ -270,7 +293,7 @@ static void expect_refused(int line, const struct request *r, uint16_t dest, siz
     check(is_untouched(OUT), line, "%s to %d: refused, but bytes written", kinds[r->kind], dest);
 }
 
-/* P1, P2, P5, P6 and P10, and P2 to ID 8, whose check code is a CR. */
+/* P1, P2, P5, P6 and P10, and P2 to ID 8, whose check code is a CR; program 0 read, program 2 written and disabled. */
 static void test_worked_requests(void)
 {
     static const struct {
@@ -281,10 +304,17 @@ static void test_worked_requests(void)
         {{.kind = SET, .page = 0x00, .code = 0x10, .value = 100}, 1, "01 30 41 30 45 30 41 02 30 30 31 30 30 30 36 34 03 77 0D"},
         {{.kind = GET, .page = 0x00, .code = 0x10}, 1, "01 30 41 30 43 30 36 02 30 30 31 30 03 04 0D"},
         {{.kind = GET, .page = 0x00, .code = 0x10}, 8, "01 30 48 30 43 30 36 02 30 30 31 30 03 0D 0D"},
-        {{.kind = SET, .page = 0x00, .code = 0x10, .value = 100}, STATION_ALL,
+        {{.kind = SET, .page = 0x00, .code = 0x10, .value = 100},
+         STATION_ALL,
          "01 30 2A 30 45 30 41 02 30 30 31 30 30 30 36 34 03 1C 0D"},
         {{.kind = SET, .page = 0xF0, .code = 0x01, .value = 1}, 1, "01 30 41 30 45 30 41 02 46 30 30 31 30 30 30 31 03 02 0D"},
         {{.kind = POWER_CONTROL, .value = 4}, 1, "01 30 41 30 41 30 43 02 43 32 30 33 44 36 30 30 30 34 03 76 0D"},
+        {{.kind = SCHEDULE_READ, .program = {0}}, 1, "01 30 41 30 41 30 38 02 43 32 32 31 30 30 03 7B 0D"},
+        {{.kind = SCHEDULE_WRITE, .program = {2, 7, 0, 23, 30, 17, 0x1F, 6}},
+         1,
+         "01 30 41 30 41 32 36 02 43 32 32 32 30 32 30 37 30 30 31 37 31 45 31 31 31 46 30 36 "
+         "30 30 30 30 30 30 30 30 30 30 30 30 30 30 30 30 03 72 0D"},
+        {{.kind = SCHEDULE_ENABLE, .program = {2, 0}}, 1, "01 30 41 30 41 30 41 02 43 32 31 35 30 32 30 30 03 07 0D"},
     };
 
     for (size_t i = 0; i < COUNT(worked); i++)
@@ -380,6 +410,75 @@ static void test_dates(void)
     }
 }
 
+static bool is_time(int hour, int minute)
+{
+    return (hour <= 23 && minute <= 59) || (hour == 24 && minute == 60);
+}
+
+/* A schedule write: a packet where its program is good, else 21. */
+static void try_program(const uint8_t *p)
+{
+    struct request r = {.kind = SCHEDULE_WRITE};
+    bool is_good = p[0] <= 6 && is_time(p[1], p[2]) && is_time(p[3], p[4]) && (p[5] == 0 || p[5] == 1 || p[5] == 3 || p[5] == 17) &&
+                   p[6] <= 0x7F && p[7] <= 7;
+    char text[40];
+
+    memcpy(r.program, p, sizeof r.program);
+    snprintf(text, sizeof text, "C222%02X%02X%02X%02X%02X%02X%02X%02X%016d", p[0], p[1], p[2], p[3], p[4], p[5], p[6], p[7], 0);
+    if (is_good)
+        EXPECT_PACKET(&r, 1, STATION_PACKET_ROOM, packet_of('A', '0', 'A', text));
+    else
+        expect_value_refused(__LINE__, &r);
+}
+
+/* Every value of each number, the others being good; and every hour with every minute around their ends. */
+static void test_programs(void)
+{
+    static const uint8_t good[8] = {2, 7, 0, 23, 30, 17, 0x1F, 6}, hours[] = {0, 1, 23, 24, 25, 255},
+                         minutes[] = {0, 1, 59, 60, 61, 255};
+
+    for (int number = 0; number < 8; number++) {
+        for (int value = 0; value <= 255; value++) {
+            uint8_t program[8];
+
+            memcpy(program, good, sizeof program);
+            program[number] = (uint8_t)value;
+            try_program(program);
+        }
+    }
+    for (size_t i = 0; i < COUNT(hours) * COUNT(minutes); i++) {
+        uint8_t hour = hours[i % COUNT(hours)], minute = minutes[i / COUNT(hours)];
+
+        try_program((const uint8_t[8]){6, hour, minute, 23, 59, 0, 0, 0});
+        try_program((const uint8_t[8]){0, 24, 60, hour, minute, 3, 0x7F, 7});
+        try_program((const uint8_t[8]){3, hour, minute, hour, minute, 1, 1, 4});
+    }
+}
+
+/* Every program that a number can name, read, enabled and disabled; and every enable. */
+static void test_program_numbers(void)
+{
+    for (int program = 0; program <= 255; program++) {
+        struct request read = {.kind = SCHEDULE_READ, .program = {(uint8_t)program}};
+        char text[10];
+
+        snprintf(text, sizeof text, "C221%02X", program);
+        if (program <= 6)
+            EXPECT_PACKET(&read, 1, STATION_PACKET_ROOM, packet_of('A', '0', 'A', text));
+        else
+            expect_value_refused(__LINE__, &read);
+        for (int enable = 0; enable <= 255; enable += enable < 3 ? 1 : 63) {
+            struct request write = {.kind = SCHEDULE_ENABLE, .program = {(uint8_t)program, (uint8_t)enable}};
+
+            snprintf(text, sizeof text, "C215%02X%02X", program, enable);
+            if (program <= 6 && enable <= 1)
+                EXPECT_PACKET(&write, 1, STATION_PACKET_ROOM, packet_of('A', '0', 'A', text));
+            else
+                expect_value_refused(__LINE__, &write);
+        }
+    }
+}
+
 /* Tags of 17 bytes and more, those included whose length in one byte would be 0 to 16. */
 static void test_long_tags(void)
 {
@@ -438,6 +537,11 @@ static const struct reply every_reply[] = {
     {'B', "F11100", STATION_REPLY_TAG_WRITE, 1, {0}, 0, ""},
     {'B', "F11101414243", STATION_REPLY_TAG_WRITE, 1, {1}, 3, "ABC"},
     {'B', "F1110030313233343536373839414243444546", STATION_REPLY_TAG_WRITE, 1, {0}, 16, "0123456789ABCDEF"},
+    {'B', "C32130313233343536373839414243444546", STATION_REPLY_SCHEDULE_READ, 0, {0}, 16, "0123456789ABCDEF"},
+    {'B', "C3220030313233343536373839414243444546", STATION_REPLY_SCHEDULE_WRITE, 1, {0}, 16, "0123456789ABCDEF"},
+    {'B', "C3220130313233343536373839414243444546", STATION_REPLY_SCHEDULE_WRITE, 1, {1}, 16, "0123456789ABCDEF"},
+    {'B', "C315000201", STATION_REPLY_SCHEDULE_ENABLE, 3, {0, 2, 1}, 0, ""},
+    {'B', "C31501FFFE", STATION_REPLY_SCHEDULE_ENABLE, 3, {1, 255, 254}, 0, ""},
 };
 
 struct reading {
@@ -498,7 +602,7 @@ static void expect_unread(int line, struct packet p, size_t numbers_len, size_t 
 
 #define EXPECT_PACKET_REFUSED(p, refusal) EXPECT_UNREAD((p), STATION_NUMBERS_ROOM, STATION_BYTES_ROOM, (refusal))
 
-/* P3, P4, P7, P8 and P9. */
+/* P3, P4, P7, P8 and P9; program 0 of an unused board, and program 2 written and disabled. */
 static void test_worked_replies(void)
 {
     static const struct {
@@ -514,6 +618,22 @@ static void test_worked_replies(void)
         {"01 30 30 41 42 30 34 02 42 45 03 01 0D", {.text = "P8", .kind = STATION_REPLY_NULL}},
         {"01 30 30 41 42 31 32 02 30 32 30 30 44 36 30 30 30 30 30 34 30 30 30 31 03 74 0D",
          {.text = "P9", .kind = STATION_REPLY_POWER_READ, .numbers_len = 2, .numbers = {0, 1}}},
+        {"01 30 30 41 42 32 36 02 43 33 32 31 30 30 31 38 33 43 31 38 33 43 30 30 30 30 30 30 "
+         "30 30 30 30 30 30 30 30 30 30 30 30 30 30 30 30 03 75 0D",
+         {.text = "program 0",
+          .kind = STATION_REPLY_SCHEDULE_READ,
+          .count = 16,
+          .bytes = "\0\x18\x3C\x18\x3C\0\0\0\0\0\0\0\0\0\0"}},
+        {"01 30 30 41 42 32 38 02 43 33 32 32 30 30 30 32 30 37 30 30 31 37 31 45 31 31 31 46 30 36 "
+         "30 30 30 30 30 30 30 30 30 30 30 30 30 30 30 30 03 7E 0D",
+         {.text = "program 2",
+          .kind = STATION_REPLY_SCHEDULE_WRITE,
+          .numbers_len = 1,
+          .numbers = {0},
+          .count = 16,
+          .bytes = "\x02\x07\0\x17\x1E\x11\x1F\x06\0\0\0\0\0\0\0"}},
+        {"01 30 30 41 42 30 43 02 43 33 31 35 30 30 30 32 30 30 03 07 0D",
+         {.text = "disabled", .kind = STATION_REPLY_SCHEDULE_ENABLE, .numbers_len = 3, .numbers = {0, 2, 0}}},
     };
 
     for (size_t i = 0; i < COUNT(worked); i++)
@@ -579,7 +699,8 @@ static void test_reply_sizes(void)
         for (size_t n = 0; n <= LONGEST; n++) {
             size_t told = size_told(&p, n);
 
-            CHECK(told == (n < STATION_HEADER_BYTES ? 0 : p.size), "%s: %zu bytes told by its first %zu", every_reply[i].text, told, n);
+            CHECK(told == (n < STATION_HEADER_BYTES ? 0 : p.size), "%s: %zu bytes told by its first %zu", every_reply[i].text, told,
+                  n);
         }
     }
     CHECK(station_reply_size(NULL, 0) == 0, "a length told by no bytes");
@@ -746,6 +867,13 @@ static void test_near_replies(void)
         {'B', "C3173031323334353637383941424344454647"}, {'B', "F1103031323334353637383941424344454647"},
         {'B', "F1123031323334353637383941424344454647"}, {'B', "F111"}, {'B', "F1110"}, {'B', "F11102"}, {'B', "F111004"},
         {'B', "F111003031323334353637383941424344454647"}, {'B', "F113"}, {'B', "F010"}, {'B', "C211"}, {'B', "01D6"},
+        {'B', "C321"}, {'B', "C321303132333435363738394142434445"}, {'B', "C3213031323334353637383941424344454647"},
+        {'B', "C3213031323334353637383941424344454"}, {'B', "C3213031323334353637383941424344454g"},
+        {'D', "C32130313233343536373839414243444546"}, {'B', "C22130313233343536373839414243444546"},
+        {'B', "C32230313233343536373839414243444546"}, {'B', "C3220230313233343536373839414243444546"},
+        {'B', "C322003031323334353637383941424344454647"}, {'B', "C33E0030313233343536373839414243444546"},
+        {'B', "C315"}, {'B', "C31500"}, {'B', "C3150002"}, {'B', "C31500020"}, {'B', "C31502020"}, {'B', "C315020200"},
+        {'B', "C31500020100"}, {'B', "C315000G01"}, {'B', "C215000201"},
     };
 
     for (size_t i = 0; i < COUNT(near); i++)
@@ -801,6 +929,8 @@ static void test_all(void)
     RUN(test_destinations);
     RUN(test_modes);
     RUN(test_dates);
+    RUN(test_programs);
+    RUN(test_program_numbers);
     RUN(test_long_tags);
     RUN(test_null_tag);
     RUN(test_worked_replies);

@@ -1,5 +1,7 @@
 // Inputs from fixed seeds: identities, stores, and packets whole, near and damaged.
-use crate::plain::{address, check_code, put, ALL, ERASING, FIELDS, STORE, UNUSED};
+use crate::plain::{
+    address, check_code, put, put_program, ALL, ERASING, FIELDS, MARK, OLD, PROGRAMS, PROGRAMS_END, PROGRAM_PLACE, STORE, UNUSED,
+};
 
 // The splitmix64 generator.
 pub struct Random(pub u64);
@@ -70,10 +72,25 @@ pub fn bad_identity(random: &mut Random) -> Identity {
     identity
 }
 
-// Any bytes with good fields in them: tags, spare bits and spare bytes may hold anything.
+// A time of day, at the edges more often than elsewhere, or none.
+fn time(random: &mut Random) -> [u8; 2] {
+    match random.below(6) {
+        0 => [24, 60],
+        1 => [23, 59],
+        2 => [0, 0],
+        _ => [random.below(24) as u8, random.below(60) as u8],
+    }
+}
+
+// Any bytes with good fields and programs in them: tags, spare bits and spare bytes may hold anything.
 fn used_store(random: &mut Random) -> Vec<u8> {
     let mut store = random.bytes(STORE);
-    store[0] = 0;
+    store[0] = MARK;
+    for program in 0..PROGRAMS {
+        let ([on_hour, on_minute], [off_hour, off_minute]) = (time(random), time(random));
+        let (input, week, flags) = (random.byte() & 3, random.byte() & 0x7F, random.byte() & 7);
+        put_program(&mut store, program, [on_hour, on_minute, off_hour, off_minute, input, week, flags]);
+    }
     for field in FIELDS {
         let value = match random.below(6) {
             0 => field.2,
@@ -83,6 +100,29 @@ fn used_store(random: &mut Random) -> Vec<u8> {
         put(&mut store, field, value);
     }
     store
+}
+
+// A store without programs: where they will stand it may hold anything, good programs too.
+fn old_store(random: &mut Random) -> Vec<u8> {
+    let mut store = used_store(random);
+    if random.one_in(2) {
+        let junk = random.bytes(PROGRAMS_END - PROGRAM_PLACE);
+        store[PROGRAM_PLACE..PROGRAMS_END].copy_from_slice(&junk);
+    }
+    store[0] = OLD;
+    if random.one_in(8) {
+        let field = FIELDS[random.below(FIELDS.len())];
+        put(&mut store, field, random.byte() & ((1u16 << field.1) - 1) as u8);
+    }
+    store
+}
+
+// Gives one program other times, often none that there are.
+fn spoil_program(random: &mut Random, store: &mut [u8]) {
+    let times = [23, 24, 25, 31].map(|hour| [hour, random.pick(&[0, 59, 60, 61, 63])]);
+    let ([on_hour, on_minute], [off_hour, off_minute]) = (random.pick(&times), time(random));
+    let program = random.below(PROGRAMS);
+    put_program(store, program, [on_hour, on_minute, off_hour, off_minute, 0, 0x7F, 7]);
 }
 
 // Mostly a store on which a board starts.
@@ -96,7 +136,13 @@ pub fn store(random: &mut Random) -> Vec<u8> {
         }
         7 => {
             let mut store = random.bytes(STORE);
-            store[0] = 0;
+            store[0] = random.pick(&[OLD, MARK]);
+            store
+        }
+        10..=14 => old_store(random),
+        15 => {
+            let mut store = used_store(random);
+            spoil_program(random, &mut store);
             store
         }
         8 => {
@@ -115,8 +161,10 @@ pub fn store(random: &mut Random) -> Vec<u8> {
 
 // Changes a store as no board does; often into one that is not sound.
 pub fn spoil(random: &mut Random, store: &mut [u8]) {
-    match random.below(6) {
-        0 => store[0] = random.pick(&[0, ERASING, 1, 0xE6, 0xFF]),
+    match random.below(8) {
+        0 => store[0] = random.pick(&[OLD, ERASING, MARK, 2, 0xE6, 0xFF]),
+        6 => spoil_program(random, store),
+        7 => store[random.from_to(PROGRAM_PLACE, PROGRAMS_END - 1)] = random.byte(),
         1..=3 => {
             let field = FIELDS[random.below(FIELDS.len())];
             put(store, field, random.byte() & ((1u16 << field.1) - 1) as u8)
@@ -225,10 +273,49 @@ fn tag(random: &mut Random) -> String {
     text
 }
 
+// A program's number, mostly one that there is.
+fn program(random: &mut Random) -> u8 {
+    match random.below(20) {
+        0 => random.byte(),
+        1 => 7,
+        2 => 6,
+        _ => random.below(PROGRAMS) as u8,
+    }
+}
+
+// The sixteen numbers of a schedule write, mostly good; now and then one or two of them outside, at the edges more often than elsewhere.
+fn program_numbers(random: &mut Random) -> [u8; 16] {
+    let ([on_hour, on_minute], [off_hour, off_minute]) = (time(random), time(random));
+    let (input, week, flags) = (random.pick(&[0, 1, 3, 17]), random.byte() & 0x7F, random.byte() & 7);
+    let mut numbers = [0; 16];
+    numbers[..8].copy_from_slice(&[program(random), on_hour, on_minute, off_hour, off_minute, input, week, flags]);
+    let wrong = if random.one_in(2) { 0 } else { random.below(3) };
+    for _ in 0..wrong {
+        let place = random.below(16);
+        numbers[place] = match place {
+            1 | 3 => random.pick(&[23, 24, 25, 31, 255]),
+            2 | 4 => random.pick(&[0, 59, 60, 61, 255]),
+            5 => random.pick(&[2, 4, 16, 18]),
+            6 => random.byte() | 0x80,
+            7 => random.pick(&[8, 15, 255]),
+            _ => random.pick(&[1, 7, 255]),
+        };
+    }
+    numbers
+}
+
+fn schedule_request(random: &mut Random) -> String {
+    match random.below(4) {
+        0 => format!("C221{:02X}", program(random)),
+        1 => format!("C215{:02X}{:02X}", program(random), if random.one_in(8) { random.byte() } else { random.byte() & 1 }),
+        _ => format!("C222{}", hex(&program_numbers(random))),
+    }
+}
+
 // Type and text of a request that a board knows; an erase only where asked for.
 fn request(random: &mut Random, erases: bool) -> (u8, String) {
     let (pair, largest) = pair(random);
-    match random.below(24) {
+    match random.below(30) {
         0 if erases => (b'E', "F0010001".into()),
         0..=4 => (b'C', format!("{pair:04X}")),
         5..=11 if pair == ERASE => (b'E', format!("{pair:04X}{:04X}", random.pick(&[0, 2, 3, 0x0101, 0x1001, 0xFFFF]))),
@@ -241,7 +328,8 @@ fn request(random: &mut Random, erases: bool) -> (u8, String) {
         19 => (b'A', "C217".into()),
         20 => (b'A', "F010".into()),
         21 => (b'A', "F012".into()),
-        _ => (b'A', format!("F011{}", tag(random))),
+        22 | 23 => (b'A', format!("F011{}", tag(random))),
+        _ => (b'A', schedule_request(random)),
     }
 }
 

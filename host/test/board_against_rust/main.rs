@@ -20,6 +20,7 @@ struct Counts {
     answers: [u64; 7],
     refusals: [u64; 14],
     starts: [u64; 14],
+    conversions: u64,
     replies: std::collections::BTreeMap<Vec<u8>, u64>,
 }
 
@@ -43,7 +44,7 @@ impl Counts {
 fn reply_name(packet: &[u8]) -> Vec<u8> {
     let (kind, text) = (packet[4], &packet[8..packet.len() - 3]);
     let shown = match kind {
-        b'B' if text.starts_with(b"C312") => &text[..6],
+        b'B' if [b"C312", b"C322", b"C315"].iter().any(|name| text.starts_with(*name)) => &text[..6],
         b'B' => &text[..text.len().min(4)],
         _ => &[text[0], text[1], text[6], text[7]],
     };
@@ -51,9 +52,10 @@ fn reply_name(packet: &[u8]) -> Vec<u8> {
 }
 
 // The replies that have to come up: type, and the beginning of the text or result and operation type.
-const REPLIES: [&str; 19] = [
+const REPLIES: [&str; 24] = [
     "D 0000", "D 0001", "D 0100", "F 0000", "F 0001", "F 0100", "F 0101", "B BE", "B 0200", "B 00C2", "B 01C2", "B C311",
-    "B C31200", "B C31201", "B C316", "B C317", "B F110", "B F112", "B F111",
+    "B C31200", "B C31201", "B C316", "B C317", "B F110", "B F112", "B F111", "B C321", "B C32200", "B C32201", "B C31500",
+    "B C31501",
 ];
 
 // A board of each sort, with the memory that it was lent.
@@ -111,14 +113,16 @@ impl Comparison {
     // Starts both on the same bytes; the state's place holds anything before.
     fn start(&mut self, identity: &Identity, bytes: &[u8]) -> Option<(Board, Lent, Lent)> {
         let mut state = Lent::of(&self.random.bytes(STATE));
-        let (state_before, mut store) = (state.clone(), Lent::of(bytes));
-        let plain = Board::start(identity.id, &identity.serial, &identity.model, bytes);
+        let (state_before, mut store, mut plain_store) = (state.clone(), Lent::of(bytes), Lent::of(bytes));
+        let plain = Board::start(identity.id, &identity.serial, &identity.model, plain_store.bytes_mut());
         let result = library::start(identity, &mut store, &mut state);
         let expected = plain.as_ref().err().copied().unwrap_or(0);
         self.note(format!("start {identity:X?} on {}", hex(bytes)));
         self.counts.starts[expected as usize] += 1;
+        self.counts.conversions += u64::from(plain_store.bytes() != bytes);
         self.expect(result == expected, || format!("start gave {result}, expected {expected}"));
-        self.expect(store == Lent::of(bytes), || "start changed the store or what is beside it".into());
+        self.expect(store == plain_store, || format!("start left the store {store:X?}, expected {plain_store:X?}"));
+        self.expect(result == 0 || store == Lent::of(bytes), || "a refused start changed the store".into());
         self.expect(result == 0 || state == state_before, || "a refused start changed the state".into());
         plain.ok().map(|plain| (plain, state, store))
     }
@@ -135,7 +139,8 @@ impl Comparison {
         let Some((plain, state, store)) = self.start(&pair.identity, pair.plain_store.bytes()) else {
             return false;
         };
-        (pair.plain, pair.state, pair.store) = (plain, state, store);
+        (pair.plain, pair.state, pair.plain_store) = (plain, state, store.clone());
+        pair.store = store;
         true
     }
 
@@ -369,14 +374,15 @@ impl Comparison {
     // A start with a place of another size for the state: 11 and 12 as ever, else 12.
     fn other_state_sizes(&mut self) {
         for size in [0, 1, 110, 112, 300] {
-            for mark in [0x00, 0xE7, 0x01] {
+            for mark in [0x00, 0x01, 0xE7, 0x02] {
                 let (mut bytes, mut state) = (UNUSED, Lent::of(&vec![7; size]));
                 bytes[0] = mark;
                 let mut store = Lent::of(&bytes);
                 let result = library::start(&identity(&mut self.random), &mut store, &mut state);
-                let expected = if mark == 0x01 { 11 } else { 12 };
+                let expected = if mark == 0x02 { 11 } else { 12 };
                 self.expect(result == expected, || format!("state of {size} bytes: start gave {result}, expected {expected}"));
                 self.expect(state == Lent::of(&vec![7; size]), || "a refused start changed the state".into());
+                self.expect(store == Lent::of(&bytes), || "a refused start changed the store".into());
             }
         }
     }
@@ -403,7 +409,8 @@ fn all_came_up(counts: &Counts) -> bool {
     let names = ["waiting", "silent", "begun", "more", "ended", "refused", "reply"];
     let answers: Vec<_> = names.iter().zip(counts.answers).map(|(name, count)| (name.to_string(), count)).collect();
     let refusals: Vec<_> = (1..=13).filter(|&n| n != 11).map(|n| (n.to_string(), counts.refusals[n])).collect();
-    let starts: Vec<_> = [0, 11, 12].iter().map(|&n| (n.to_string(), counts.starts[n])).collect();
+    let mut starts: Vec<_> = [0, 11, 12].iter().map(|&n| (n.to_string(), counts.starts[n])).collect();
+    starts.push(("with a conversion".into(), counts.conversions));
     let reply = |name: &&str| (name.to_string(), counts.replies.get(name.as_bytes()).copied().unwrap_or(0));
     let replies: Vec<_> = REPLIES.iter().map(reply).collect();
     shown("answers", &answers);

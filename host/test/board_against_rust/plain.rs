@@ -1,8 +1,13 @@
-// The board in plain Rust, written from document 01 by itself ('Packet' to 'Erase'). It needs no standard library.
+// The board in plain Rust, written from document 01 ('Packet' to 'Erase') and document 02 (schedules) by itself. It needs
+// no standard library.
 
 pub const STORE: usize = 128;
 pub const ROOM: usize = 64;
 pub const ALL: u8 = b'*';
+
+// The marks of a store: without programs, with programs, and while an erase is pending.
+pub const OLD: u8 = 0x00;
+pub const MARK: u8 = 0x01;
 pub const ERASING: u8 = 0xE7;
 
 #[derive(Clone, Copy, Debug, PartialEq)]
@@ -152,12 +157,73 @@ fn in_range(store: &[u8]) -> bool {
     settings & good(TILE) & date & good(TAG) & good(FORMER)
 }
 
+// ---- the programs
+
+pub const PROGRAMS: usize = 7;
+pub const PROGRAM_PLACE: usize = 44;
+const PROGRAM: usize = 5;
+pub const PROGRAMS_END: usize = PROGRAM_PLACE + PROGRAMS * PROGRAM;
+const UNUSED_PROGRAM: [u8; PROGRAM] = [0xC7, 0x98, 0xF0, 0x00, 0x00];
+
+// ON_HOUR, ON_MIN, OFF_HOUR, OFF_MIN, INPUT, WEEK and FL, most significant bit first; six spare bits stand behind them.
+pub const PROGRAM_WIDTHS: [u32; 7] = [5, 6, 5, 6, 2, 7, 3];
+const SPARE_BITS: u32 = 6;
+
+// INPUT as it is sent, by what is stored of it.
+const INPUTS: [u8; 4] = [0, 1, 3, 17];
+
+// The store's bytes of a program.
+fn program_bytes(program: usize) -> core::ops::Range<usize> {
+    let first = PROGRAM_PLACE + PROGRAM * program;
+    first..first + PROGRAM
+}
+
+fn program_word(store: &[u8], program: usize) -> u64 {
+    store[program_bytes(program)].iter().fold(0, |word, &byte| word << 8 | u64::from(byte))
+}
+
+fn program_of(store: &[u8], program: usize) -> [u8; 7] {
+    let mut left = program_word(store, program) >> SPARE_BITS;
+    let mut fields = [0; 7];
+    for (field, width) in fields.iter_mut().zip(PROGRAM_WIDTHS).rev() {
+        *field = (left & ((1 << width) - 1)) as u8;
+        left >>= width;
+    }
+    fields
+}
+
+// Puts the seven fields, and leaves the spare bits as they are.
+pub fn put_program(store: &mut [u8], program: usize, fields: [u8; 7]) {
+    let spare = program_word(store, program) & ((1 << SPARE_BITS) - 1);
+    let packed = fields.iter().zip(PROGRAM_WIDTHS).fold(0, |word, (&field, width)| word << width | u64::from(field));
+    let word = packed << SPARE_BITS | spare;
+    store[program_bytes(program)].copy_from_slice(&word.to_be_bytes()[8 - PROGRAM..]);
+}
+
+// A time of day, or 24 and 60 together, which mean that there is none.
+fn is_time(hour: u8, minute: u8) -> bool {
+    (hour <= 23 && minute <= 59) || (hour, minute) == (24, 60)
+}
+
+// Two times of 11 bits each stand first in a program.
+fn programs_in_range(store: &[u8]) -> bool {
+    (0..PROGRAMS).all(|program| {
+        let times = program_word(store, program) >> 18;
+        [times >> 11, times].iter().all(|time| is_time((time >> 6 & 31) as u8, (time & 63) as u8))
+    })
+}
+
 pub const UNUSED: [u8; STORE] = {
     let mut store = [0; STORE];
-    let named = [0x8C, 0x3C, 0xC9, 0x91, 0x4A, 0x0C, 0x00, 0x87];
+    let named = [MARK, 0x8C, 0x3C, 0xC9, 0x91, 0x4A, 0x0C, 0x00, 0x87];
     let mut place = 0;
     while place < named.len() {
-        store[place + 1] = named[place];
+        store[place] = named[place];
+        place += 1;
+    }
+    place = PROGRAM_PLACE;
+    while place < PROGRAMS_END {
+        store[place] = UNUSED_PROGRAM[(place - PROGRAM_PLACE) % PROGRAM];
         place += 1;
     }
     store
@@ -248,15 +314,20 @@ pub struct Board {
 }
 
 impl Board {
-    pub fn start(id: u8, serial: &[u8], model: &[u8], store: &[u8]) -> Result<Board, u8> {
-        if store.len() != STORE || ![0, ERASING].contains(&store[0]) {
+    // A start on a store without programs gives it unused ones.
+    pub fn start(id: u8, serial: &[u8], model: &[u8], store: &mut [u8]) -> Result<Board, u8> {
+        if store.len() != STORE || ![OLD, MARK, ERASING].contains(&store[0]) {
             return Err(11);
         }
         let (1..=8, Some(serial), Some(model)) = (id, Text::of(serial), Text::of(model)) else {
             return Err(12);
         };
-        if store[0] == 0 && !in_range(store) {
+        if store[0] != ERASING && !in_range(store) || store[0] == MARK && !programs_in_range(store) {
             return Err(12);
+        }
+        if store[0] == OLD {
+            store[PROGRAM_PLACE..PROGRAMS_END].copy_from_slice(&UNUSED[PROGRAM_PLACE..PROGRAMS_END]);
+            store[0] = MARK;
         }
         let erase = (store[0] == ERASING).then_some(Erase { next: 1, owed: false });
         Ok(Board { id, serial, model, held: [0; 73], len: 0, size: 0, erase })
@@ -266,7 +337,7 @@ impl Board {
     fn is_sound_on(&self, store: &[u8]) -> bool {
         store.len() == STORE
             && match self.erase {
-                None => store[0] == 0 && in_range(store),
+                None => store[0] == MARK && in_range(store) && programs_in_range(store),
                 Some(Erase { next, .. }) => store[0] == ERASING && store[1..next] == UNUSED[1..next],
             }
     }
@@ -301,7 +372,7 @@ impl Board {
             erase.next += 1;
             return More;
         }
-        store[0] = 0;
+        store[0] = MARK;
         let owed = erase.owed;
         self.erase = None;
         if owed {
@@ -438,6 +509,9 @@ impl Board {
             [b'C', b'2', b'0', b'3', b'D', b'6', mode @ ..] => self.power_control(mode, store),
             [b'C', b'2', b'1', b'2', date @ ..] => self.date_write(date, store),
             [b'F', b'0', b'1', b'1', tag @ ..] => self.tag_write(tag, store),
+            [b'C', b'2', b'2', b'1', program @ ..] => self.schedule_read(program, store),
+            [b'C', b'2', b'2', b'2', numbers @ ..] => self.schedule_write(numbers, store),
+            [b'C', b'2', b'1', b'5', numbers @ ..] => self.schedule_enable(numbers, store),
             _ => None,
         }
     }
@@ -508,6 +582,67 @@ impl Board {
         reply.numbers(&tag[..count]);
         Some(reply)
     }
+}
+
+// The schedule.
+impl Board {
+    fn schedule_read(&self, digits: &[u8], store: &[u8]) -> Option<Writing> {
+        let (numbers, 1) = bytes_in(digits)? else {
+            return None;
+        };
+        let program = usize::from(numbers[0]);
+        if program >= PROGRAMS {
+            return None;
+        }
+        let [on_hour, on_minute, off_hour, off_minute, input, week, flags] = program_of(store, program);
+        let mut reply = self.reply();
+        reply.raw(b"C321");
+        reply.numbers(&[numbers[0], on_hour, on_minute, off_hour, off_minute, INPUTS[usize::from(input)], week, flags]);
+        reply.numbers(&[0; 8]);
+        Some(reply)
+    }
+
+    fn schedule_write(&self, digits: &[u8], store: &mut [u8]) -> Option<Writing> {
+        let (numbers, 16) = bytes_in(digits)? else {
+            return None;
+        };
+        let program = accepted_program(&numbers);
+        if let Some(fields) = program {
+            put_program(store, numbers[0].into(), fields);
+        }
+        let mut reply = self.reply();
+        reply.raw(b"C322");
+        reply.digits(program.is_none().into(), 2);
+        reply.numbers(&numbers);
+        Some(reply)
+    }
+
+    fn schedule_enable(&self, digits: &[u8], store: &mut [u8]) -> Option<Writing> {
+        let (numbers, 2) = bytes_in(digits)? else {
+            return None;
+        };
+        let (program, enable) = (usize::from(numbers[0]), numbers[1]);
+        let is_good = program < PROGRAMS && enable <= 1;
+        if is_good {
+            let mut fields = program_of(store, program);
+            fields[6] = fields[6] & 0b011 | enable << 2;
+            put_program(store, program, fields);
+        }
+        let mut reply = self.reply();
+        reply.raw(b"C315");
+        reply.digits((!is_good).into(), 2);
+        reply.numbers(&numbers[..2]);
+        Some(reply)
+    }
+}
+
+// What is stored of sixteen numbers: program, its seven fields as sent and eight that are reserved.
+fn accepted_program(numbers: &[u8; TEXT]) -> Option<[u8; 7]> {
+    let [program, on_hour, on_minute, off_hour, off_minute, input, week, flags, reserved @ ..] = *numbers;
+    let kept = INPUTS.iter().position(|&sent| sent == input)?;
+    let times = is_time(on_hour, on_minute) && is_time(off_hour, off_minute);
+    let is_good = usize::from(program) < PROGRAMS && times && week <= 0x7F && flags <= 7 && reserved == [0; 8];
+    is_good.then_some([on_hour, on_minute, off_hour, off_minute, kept as u8, week, flags])
 }
 
 // The packet's size, or refusal 2, 3 or 4.

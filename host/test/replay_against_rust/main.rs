@@ -29,7 +29,7 @@ fn told(at: usize, answer: Answer, reply: &[u8]) -> Option<String> {
 
 fn transcript(bytes: &[u8], out: &mut impl Write) -> io::Result<()> {
     let (mut store, mut reply) = (UNUSED, [0; ROOM]);
-    let mut board = Board::start(ID, b"", b"", &store).expect("the unused board starts");
+    let mut board = Board::start(ID, b"", b"", &mut store).expect("the unused board starts");
     writeln!(out, "at kind data")?;
     for (before, &byte) in bytes.iter().enumerate() {
         let mut tell = |answer, reply: &[u8]| match told(before + 1, answer, reply) {

@@ -89,7 +89,47 @@ fn tag(random: &mut Random) -> Vec<u8> {
     random.bytes(count)
 }
 
-pub const REQUESTS: usize = 11;
+// A program's number, mostly one that there is.
+fn program(random: &mut Random) -> u8 {
+    match random.below(12) {
+        0 => random.byte(),
+        1 => 7,
+        2 => 6,
+        _ => random.below(7) as u8,
+    }
+}
+
+// A time of day, at the edges more often than elsewhere, or none.
+fn time(random: &mut Random) -> [u8; 2] {
+    match random.below(6) {
+        0 => [24, 60],
+        1 => [23, 59],
+        2 => [0, 0],
+        _ => [random.below(24) as u8, random.below(60) as u8],
+    }
+}
+
+// The eight numbers of a program, mostly good; now and then one or two outside, at the edges more often than elsewhere.
+fn program_numbers(random: &mut Random) -> [u8; 8] {
+    let ([on_hour, on_minute], [off_hour, off_minute]) = (time(random), time(random));
+    let (input, week, flags) = (random.pick(&[0, 1, 3, 17]), random.byte() & 0x7F, random.byte() & 7);
+    let mut numbers = [program(random), on_hour, on_minute, off_hour, off_minute, input, week, flags];
+    let wrong = if random.one_in(2) { 0 } else { random.below(3) };
+    for _ in 0..wrong {
+        let place = random.below(8);
+        numbers[place] = match place {
+            1 | 3 => random.pick(&[23, 24, 25, 31, 255]),
+            2 | 4 => random.pick(&[0, 59, 60, 61, 255]),
+            5 => random.pick(&[2, 4, 16, 18]),
+            6 => random.byte() | 0x80,
+            7 => random.pick(&[8, 15, 255]),
+            _ => random.byte(),
+        };
+    }
+    numbers
+}
+
+pub const REQUESTS: usize = 14;
 
 pub fn request(random: &mut Random, which: usize) -> Request {
     let (page, code) = (random.byte(), random.byte());
@@ -104,7 +144,13 @@ pub fn request(random: &mut Random, which: usize) -> Request {
         7 => Request::ModelRead,
         8 => Request::TagRead,
         9 => Request::FormerTagRead,
-        _ => Request::TagWrite { tag: tag(random) },
+        10 => Request::TagWrite { tag: tag(random) },
+        11 => Request::ScheduleRead { program: program(random) },
+        12 => Request::ScheduleWrite { numbers: program_numbers(random) },
+        _ => {
+            let enable = if random.one_in(8) { random.byte() } else { random.byte() & 1 };
+            Request::ScheduleEnable { program: program(random), enable }
+        }
     }
 }
 
@@ -137,7 +183,17 @@ fn item(random: &mut Random, near: bool) -> String {
     text
 }
 
-pub const REPLIES: usize = 12;
+// The digits of a program's sixteen numbers; where `near` sometimes one digit or number more or fewer.
+fn program_digits(random: &mut Random, near: bool) -> String {
+    let count = if near && random.one_in(4) { random.from_to(15, 17) } else { 16 };
+    let mut text = digits(random, 2 * count);
+    if near && random.one_in(8) {
+        text.pop();
+    }
+    text
+}
+
+pub const REPLIES: usize = 15;
 
 // Type and text of a reply; where `near` a field may hold what it must not.
 fn reply_text(random: &mut Random, which: usize, near: bool) -> (u8, String) {
@@ -156,7 +212,13 @@ fn reply_text(random: &mut Random, which: usize, near: bool) -> (u8, String) {
         8 => (b'B', format!("C317{}", item(random, near))),
         9 => (b'B', format!("F110{}", item(random, near))),
         10 => (b'B', format!("F112{}", item(random, near))),
-        _ => (b'B', format!("F111{first}{}", item(random, near))),
+        11 => (b'B', format!("F111{first}{}", item(random, near))),
+        12 => (b'B', format!("C321{}", program_digits(random, near))),
+        13 => (b'B', format!("C322{first}{}", program_digits(random, near))),
+        _ => {
+            let count = if near && random.one_in(4) { random.from_to(1, 3) } else { 2 };
+            (b'B', format!("C315{first}{}", digits(random, 2 * count)))
+        }
     }
 }
 

@@ -25,6 +25,22 @@ extern "C" {
     fn station_encode_tag_read(dest: u16, out: *mut u8, out_len: usize, size: *mut usize) -> u8;
     fn station_encode_former_tag_read(dest: u16, out: *mut u8, out_len: usize, size: *mut usize) -> u8;
     fn station_encode_tag_write(dest: u16, tag: *const u8, tag_len: usize, out: *mut u8, out_len: usize, size: *mut usize) -> u8;
+    fn station_encode_schedule_read(dest: u16, program: u8, out: *mut u8, out_len: usize, size: *mut usize) -> u8;
+    fn station_encode_schedule_write(
+        dest: u16,
+        program: u8,
+        on_hour: u8,
+        on_minute: u8,
+        off_hour: u8,
+        off_minute: u8,
+        input: u8,
+        week: u8,
+        flags: u8,
+        out: *mut u8,
+        out_len: usize,
+        size: *mut usize,
+    ) -> u8;
+    fn station_encode_schedule_enable(dest: u16, program: u8, enable: u8, out: *mut u8, out_len: usize, size: *mut usize) -> u8;
     fn station_read(
         packet: *const u8,
         packet_len: usize,
@@ -107,6 +123,15 @@ impl Encoding {
                 Request::TagRead => station_encode_tag_read(dest, out, room, size),
                 Request::FormerTagRead => station_encode_former_tag_read(dest, out, room, size),
                 Request::TagWrite { tag } => station_encode_tag_write(dest, tag.as_ptr(), tag.len(), out, room, size),
+                Request::ScheduleRead { program } => station_encode_schedule_read(dest, *program, out, room, size),
+                Request::ScheduleWrite { numbers: [pg, on_hour, on_min, off_hour, off_min, input, week, fl] } => {
+                    station_encode_schedule_write(
+                        dest, *pg, *on_hour, *on_min, *off_hour, *off_min, *input, *week, *fl, out, room, size,
+                    )
+                }
+                Request::ScheduleEnable { program, enable } => {
+                    station_encode_schedule_enable(dest, *program, *enable, out, room, size)
+                }
             }
         };
         self

@@ -13,7 +13,8 @@ const RANDOM_REPLIES: usize = 4_000_000;
 
 // Each of these has to come up so often.
 const ENCODER_RESULTS: [u8; 4] = [0, 10, 20, 21];
-const READER_RESULTS: [u8; 19] = [10, 30, 31, 32, 33, 34, 35, 101, 102, 103, 104, 105, 106, 107, 108, 109, 110, 111, 112];
+const READER_RESULTS: [u8; 22] =
+    [10, 30, 31, 32, 33, 34, 35, 101, 102, 103, 104, 105, 106, 107, 108, 109, 110, 111, 112, 113, 114, 115];
 const LEAST: u64 = 100;
 
 struct Comparison {
@@ -83,7 +84,7 @@ impl Comparison {
         }
     }
 
-    // Every mode, every value of each date field in a good date, every tag length to 300.
+    // Every mode, every value of each date field in a good date, every tag length to 300; and every value of programs.
     fn values(&mut self) {
         (0..=u16::MAX).for_each(|mode| self.request(1, &Request::PowerControl { mode }, 64));
         for (field, value) in (0..7).flat_map(|field| (0..=255).map(move |value| (field, value))) {
@@ -94,6 +95,26 @@ impl Comparison {
         for count in 0..=300 {
             let tag = self.random.bytes(count);
             self.request(1, &Request::TagWrite { tag }, 64);
+        }
+        self.programs();
+    }
+
+    // Every hour with every minute, every other number of a program that is good, every program and every enable.
+    fn programs(&mut self) {
+        let good = [2, 7, 0, 23, 30, 17, 0x1F, 6];
+        for (hour, minute) in (0..=255).flat_map(|hour| (0..=255).map(move |minute| (hour, minute))) {
+            for place in [1, 3] {
+                let mut numbers = good;
+                numbers[place..place + 2].copy_from_slice(&[hour, minute]);
+                self.request(1, &Request::ScheduleWrite { numbers }, 64);
+            }
+            self.request(1, &Request::ScheduleEnable { program: hour, enable: minute }, 64);
+        }
+        for (place, value) in (0..8).flat_map(|place| (0..=255).map(move |value| (place, value))) {
+            let mut numbers = good;
+            numbers[place] = value;
+            self.request(1, &Request::ScheduleWrite { numbers }, 64);
+            self.request(1, &Request::ScheduleRead { program: value }, 64);
         }
     }
 
@@ -118,7 +139,7 @@ impl Comparison {
 }
 
 // Type, text and the place of a result, a status or an operation type.
-const FLAGS: [(u8, &[u8], usize); 8] = [
+const FLAGS: [(u8, &[u8], usize); 10] = [
     (b'D', b"0000100000640032", 0),
     (b'D', b"0000100000640032", 6),
     (b'F', b"0000100000640032", 0),
@@ -127,6 +148,8 @@ const FLAGS: [(u8, &[u8], usize); 8] = [
     (b'B', b"00C203D60004", 0),
     (b'B', b"C3120000010106000000", 4),
     (b'B', b"F11100414243", 4),
+    (b'B', b"C32200020700171E111F060000000000000000", 4),
+    (b'B', b"C315000201", 4),
 ];
 
 fn differ(input: &str, plain: &impl std::fmt::Debug, proved: &impl std::fmt::Debug) -> ! {

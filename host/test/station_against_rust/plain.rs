@@ -1,4 +1,5 @@
-// Encoder and reader in plain Rust, written from document 01 by itself ('Packet', 'What a good packet does', 'Station').
+// Encoder and reader in plain Rust, written from document 01 ('Packet', 'What a good packet does', 'Station') and document 02
+// (schedules) by itself.
 
 pub const ALL: u16 = 256;
 
@@ -15,6 +16,9 @@ pub enum Request {
     TagRead,
     FormerTagRead,
     TagWrite { tag: Vec<u8> },
+    ScheduleRead { program: u8 },
+    ScheduleWrite { numbers: [u8; 8] },
+    ScheduleEnable { program: u8, enable: u8 },
 }
 
 #[derive(Debug)]
@@ -74,11 +78,25 @@ fn date_is_good(date: &[u8; 7]) -> bool {
     ranges.iter().zip(date).all(|(range, field)| range.contains(field))
 }
 
+// A time of day, or 24 and 60 together, which mean that there is none.
+fn is_time(hour: u8, minute: u8) -> bool {
+    (hour <= 23 && minute <= 59) || (hour, minute) == (24, 60)
+}
+
+// Program, ON_HOUR, ON_MIN, OFF_HOUR, OFF_MIN, INPUT, WEEK, FL.
+fn program_is_good(&[program, on_hour, on_minute, off_hour, off_minute, input, week, flags]: &[u8; 8]) -> bool {
+    let times = is_time(on_hour, on_minute) && is_time(off_hour, off_minute);
+    program <= 6 && times && [0, 1, 3, 17].contains(&input) && week <= 0x7F && flags <= 7
+}
+
 fn is_in_range(request: &Request) -> bool {
     match request {
         Request::PowerControl { mode } => [1, 4].contains(mode),
         Request::DateWrite { date } => date_is_good(date),
         Request::TagWrite { tag } => tag.len() <= 16,
+        Request::ScheduleRead { program } => *program <= 6,
+        Request::ScheduleWrite { numbers } => program_is_good(numbers),
+        Request::ScheduleEnable { program, enable } => *program <= 6 && *enable <= 1,
         _ => true,
     }
 }
@@ -96,6 +114,9 @@ fn type_and_text(request: &Request) -> (u8, String) {
         Request::TagRead => (b'A', "F010".into()),
         Request::FormerTagRead => (b'A', "F012".into()),
         Request::TagWrite { tag } => (b'A', format!("F011{}", hex(tag))),
+        Request::ScheduleRead { program } => (b'A', format!("C221{program:02X}")),
+        Request::ScheduleWrite { numbers } => (b'A', format!("C222{}{}", hex(numbers), hex(&[0; 8]))),
+        Request::ScheduleEnable { program, enable } => (b'A', format!("C215{program:02X}{enable:02X}")),
     }
 }
 
@@ -154,6 +175,11 @@ impl Text<'_> {
             bytes.push(self.digits(2)? as u8);
         }
         Some(bytes).filter(|bytes| bytes.len() <= 16)
+    }
+
+    // Everything that is left: the sixteen numbers of a program.
+    fn program(&mut self) -> Option<Vec<u8>> {
+        self.bytes().filter(|bytes| bytes.len() == 16)
     }
 
     fn end(&self) -> Option<()> {
@@ -222,6 +248,23 @@ fn tag_write(mut text: Text) -> Option<Reply> {
     Some(Reply { kind: 112, numbers: vec![text.flag()?], bytes: text.bytes()? })
 }
 
+fn schedule_read(mut text: Text) -> Option<Reply> {
+    text.name("C321")?;
+    Some(Reply { kind: 113, numbers: vec![], bytes: text.program()? })
+}
+
+fn schedule_write(mut text: Text) -> Option<Reply> {
+    text.name("C322")?;
+    Some(Reply { kind: 114, numbers: vec![text.flag()?], bytes: text.program()? })
+}
+
+fn schedule_enable(mut text: Text) -> Option<Reply> {
+    text.name("C315")?;
+    let (status, program, enable) = (text.flag()?, text.digits(2)?, text.digits(2)?);
+    text.end()?;
+    reply(115, vec![status, program, enable])
+}
+
 fn command_reply(text: &[u8]) -> Option<Reply> {
     null(Text(text))
         .or_else(|| power_read(Text(text)))
@@ -233,6 +276,9 @@ fn command_reply(text: &[u8]) -> Option<Reply> {
         .or_else(|| item(110, "F110", Text(text)))
         .or_else(|| item(111, "F112", Text(text)))
         .or_else(|| tag_write(Text(text)))
+        .or_else(|| schedule_read(Text(text)))
+        .or_else(|| schedule_write(Text(text)))
+        .or_else(|| schedule_enable(Text(text)))
 }
 
 // The reply that a message from STX to ETX holds under its packet's type.
