@@ -44,18 +44,20 @@ unsafe extern "C" fn board_start(
     serial_len: usize,
     model: *const u8,
     model_len: usize,
-    store: *const u8,
+    store: *mut u8,
     store_len: usize,
     state: &mut MaybeUninit<Board>,
     state_len: usize,
 ) -> u8 {
     let (serial, model) = unsafe { (from_raw_parts(serial, serial_len), from_raw_parts(model, model_len)) };
-    match Board::start(id, serial, model, unsafe { from_raw_parts(store, store_len) }) {
-        Ok(board) if state_len == size_of::<Board>() => {
+    if state_len != size_of::<Board>() {
+        return 12; // the proved one checks this behind the store; here it comes first, for a refused start stores nothing
+    }
+    match Board::start(id, serial, model, unsafe { from_raw_parts_mut(store, store_len) }) {
+        Ok(board) => {
             state.write(board);
             0
         }
-        Ok(_) => 12,
         Err(number) => number,
     }
 }

@@ -9,7 +9,7 @@ mod plain;
 use std::io::Write;
 
 const BYTES: usize = 10_000_000;
-const SEED: u64 = 0x5EED_0003;
+const SEED: u64 = 0x5EED_000A;
 const ID: u8 = 1;
 
 fn main() -> std::io::Result<()> {

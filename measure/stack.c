@@ -90,9 +90,9 @@ INLINED void refuse(void)
     byte(0x01, sizeof reply);
     gap();
     store[1] = kept;
-    store[0] = 0x01;
+    store[0] = 0x02;
     start(1);
-    store[0] = 0x00;
+    store[0] = 0x01;
 }
 
 /* An erase to its end; where there is a cut, the board starts again halfway. */
@@ -123,6 +123,7 @@ INLINED size_t depth_now(void)
 static void *run(void *given)
 {
     board_unused(store, sizeof store);
+    store[0] = 0x00; /* without programs, so that the start converts it */
     start(1);
     play(recording, recorded);
     gap();
