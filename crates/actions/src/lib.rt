@@ -88,33 +88,17 @@ fn decide_request(
     ensures { λ r. ⌜ Decides r (effectOf (identityOf id serial model) (now (store .entry)) (requestOf request bytes)) ⌝ }
 {
     match request {
-        Request::Get { page, code } => {
-            return get(page, code, store);
-        }
-        Request::Set { page, code, value } => {
-            return set(page, code, value, store);
-        }
-        Request::PowerRead => {
-            return power_read(store);
-        }
-        Request::PowerControl(mode) => {
-            return power_control(mode, store);
-        }
+        Request::Get { page, code } => return get(page, code, store),
+        Request::Set { page, code, value } => return set(page, code, value, store),
+        Request::PowerRead => return power_read(store),
+        Request::PowerControl(mode) => return power_control(mode, store),
         Request::DateRead => {
             return unchanged(Reply::Date(DateAnswer::Read(contents::date_of(store))));
         }
-        Request::DateWrite(date) => {
-            return date_write(date, store);
-        }
-        Request::ItemRead(item) => {
-            return item_read(id, serial, model, item, store);
-        }
-        Request::TagWrite(count) => {
-            return tag_write(bytes, count, store);
-        }
-        Request::Schedule(request) => {
-            return schedule(request, bytes, store);
-        }
+        Request::DateWrite(date) => return date_write(date, store),
+        Request::ItemRead(item) => return item_read(id, serial, model, item, store),
+        Request::TagWrite(count) => return tag_write(bytes, count, store),
+        Request::Schedule(request) => return schedule(request, bytes, store),
     }
 }
 
