@@ -1125,12 +1125,19 @@ static void test_no_start(void)
     EXCHANGE('A', "F013", 'B', null_text);
 }
 
+/* What a digit stands for; -1 where the byte is none. */
+static int digit_value(uint8_t b)
+{
+    static const char digits[] = "0123456789ABCDEF";
+    const char *found = b ? strchr(digits, b) : NULL;
+
+    return found ? (int)(found - digits) : -1;
+}
+
 /* The refusal of a header, or 0. */
 static int header_refusal(const uint8_t *h)
 {
-    static const char digits[] = "0123456789ABCDEF";
-    const char *high = h[5] ? strchr(digits, h[5]) : NULL, *low = h[6] ? strchr(digits, h[6]) : NULL;
-    long l = high && low ? 16 * (high - digits) + (low - digits) : 0;
+    int high = digit_value(h[5]), low = digit_value(h[6]), l = high < 0 || low < 0 ? 0 : 16 * high + low;
 
     if (h[1] != '0' || h[3] != '0')
         return BOARD_REFUSED_HEADER;
@@ -1175,6 +1182,53 @@ static void test_headers(void)
         header[4] += faults >> 2 & 1;
         header[6] -= faults >> 3 & 1;
         try_header(header);
+    }
+}
+
+/* Every byte that is no digit, in each place of a text. */
+static void try_bad_digits(int type, const char *text)
+{
+    for (size_t place = 0; place < strlen(text); place++) {
+        for (int b = 0; b <= 255; b++) {
+            struct packet p = request_to(own_address(), type, text);
+
+            if (digit_value((uint8_t)b) >= 0)
+                continue;
+            p.bytes[8 + place] = (uint8_t)b;
+            mend_check_code(&p);
+            GIVE(p);
+            check_reply(__LINE__, packet_of('0', own_address(), 'B', null_text));
+        }
+    }
+}
+
+/* Sixteen bytes are digits in each place of a value. With any other byte a text is nothing known: names consist of digits too. */
+static void test_digits(void)
+{
+    static const struct {
+        char type;
+        const char *text;
+    } requests[] = {{'C', "0010"},
+                    {'E', "00100000"},
+                    {'A', "01D6"},
+                    {'A', "C203D60001"},
+                    {'A', "C211"},
+                    {'A', "C21200010106000000"},
+                    {'A', "C216"},
+                    {'A', "C217"},
+                    {'A', "F010"},
+                    {'A', "F0113031"},
+                    {'A', "F012"},
+                    {'A', "C22100"},
+                    {'A', "C222020700171E111F060000000000000000"},
+                    {'A', "C2150200"}};
+
+    start_used(4);
+    for (size_t i = 0; i < COUNT(requests); i++)
+        try_bad_digits(requests[i].type, requests[i].text);
+    for (unsigned place = 0; place < 4; place++) {
+        for (unsigned value = 0; value < 16; value++)
+            try_set(&settings[0], value << 4 * place, 1);
     }
 }
 
@@ -1773,6 +1827,7 @@ static void test_packets(void)
     RUN(test_serials_and_models);
     RUN(test_no_start);
     RUN(test_headers);
+    RUN(test_digits);
     RUN(test_lengths);
     RUN(test_faulty_packets);
     RUN(test_destinations);

@@ -880,6 +880,39 @@ static void test_near_replies(void)
         EXPECT_PACKET_REFUSED(reply_of(near[i].type, near[i].text), STATION_REFUSED_REPLY_MESSAGE);
 }
 
+/* Every byte that is no digit, in each place of a reply's text. */
+static void try_bad_digits(const struct reply *reply)
+{
+    for (size_t place = 0; place < strlen(reply->text); place++) {
+        for (int b = 0; b <= 255; b++) {
+            struct packet p = reply_of(reply->type, reply->text);
+
+            if (b != 0 && strchr("0123456789ABCDEF", b) != NULL)
+                continue;
+            p.bytes[8 + place] = (uint8_t)b;
+            mend_check_code(&p);
+            EXPECT_PACKET_REFUSED(p, STATION_REFUSED_REPLY_MESSAGE);
+        }
+    }
+}
+
+/* Sixteen bytes are digits in each place of a value. With any other byte the text is no reply's: names consist of digits too. */
+static void test_digits(void)
+{
+    for (size_t i = 0; i < COUNT(every_reply); i++)
+        try_bad_digits(&every_reply[i]);
+    for (unsigned place = 0; place < 4; place++) {
+        for (unsigned digit = 0; digit < 16; digit++) {
+            struct reply reply = every_reply[1];
+            char text[20];
+
+            reply.numbers[5] = (uint16_t)(digit << 4 * place);
+            snprintf(text, sizeof text, "%.12s%04X", reply.text, reply.numbers[5]);
+            EXPECT_REPLY(reply_of(reply.type, text), &reply, 1, 0);
+        }
+    }
+}
+
 /* 35: STX and ETX belong to the message, so that another byte there is no reply, whatever the check code. */
 static void test_message_ends(void)
 {
@@ -945,6 +978,7 @@ static void test_all(void)
     RUN(test_headers);
     RUN(test_lengths);
     RUN(test_near_replies);
+    RUN(test_digits);
     RUN(test_message_ends);
     RUN(test_unseen_changes);
 }
