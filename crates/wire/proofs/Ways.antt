@@ -1,10 +1,9 @@
 -- A way through the code beside the way through a definition: each law takes one step, by what a test or a call on the way told, and
 -- leaves what the definition says behind it. `search ways depth 20`, under `unfolding` of the definition, closes a `return`.
-use mathlib.Core.Bool.{Bool, true, false, cond, not}
+use mathlib.Core.Bool.{Bool, true, false, cond}
 use mathlib.Core.Option.{Option, none, bind}
 use mathlib.Core.Path.{_≡_}
 use Prim.Native.Nat.{ℕ}
-use borrow.Author.Tests.{not-true, not-false}
 use Rattle.wire.specs.Digits.{octet, word}
 use Rattle.wire.specs.declared.digits.Octet.{Octet}
 use Rattle.wire.specs.declared.digits.Word.{Word}
@@ -25,12 +24,6 @@ module _ {A : Type 0} (b : Bool) (x y z : A) where
 
     pub told-false : r ≡ false → z ≡ y → z ≡ cond b x y
     told-false e p = rw (← told, e) p
-
-    pub told-not-false : not r ≡ false → z ≡ x → z ≡ cond b x y
-    told-not-false e p = rw (← told, not-false r e) p
-
-    pub told-not-true : not r ≡ true → z ≡ y → z ≡ cond b x y
-    told-not-true e p = rw (← told, not-true r e) p
 
 -- ---- a field that a call read
 
@@ -59,4 +52,4 @@ module _ {A : Type 0} (o : Option ℕ) (k : ℕ → Option A) (z : Option A) whe
 pub ruleset told = (told-true, told-false)
 
 -- any of the steps
-pub ruleset ways = (told, told-not-false, told-not-true, octet-value, octet-bad, word-value, word-bad, where-true, where-false, tests)
+pub ruleset ways = (told, octet-value, octet-bad, word-value, word-bad, where-true, where-false, tests)
