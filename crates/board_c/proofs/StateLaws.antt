@@ -10,7 +10,7 @@ use borrow.Author.Tests.{eq-eqb}
 use Rattle.wire.specs.Packet.{over}
 use Rattle.wire.proofs.PacketLaws.{over-paste, over-set}
 use Rattle.store.specs.declared.contents.ItemBytes.{ItemBytes}
-use Rattle.store.proofs.FieldLaws.{copy-all}
+use Rattle.wire.proofs.CopyLaws.{copy-all}
 use Rattle.board.specs.declared.board.Board.{Board}
 use Rattle.calls.specs.Board.{placeOf}
 use Rattle.board.specs.View.{eraseOf}

@@ -1,14 +1,15 @@
--- What the code does to some bytes of the store it does to the store: a field of them, the date, a copy of them, a range of them.
+-- What the code does to some bytes of the store it does to the store: a field of them, the date, a range of them.
 use borrow.Author.Needs.{needs}
 use mathlib.Core.Bool.{Bool, true, _&&_, and-true, and-assoc}
 use mathlib.Core.Path.{_≡_, refl, sym, ap, ap₂, _∙_}
-use mathlib.Core.List.{List, [], _∷_, _++_, append-nil}
+use mathlib.Core.List.{List, [], _∷_, _++_}
 use Prim.Native.Nat.{ℕ, zero, suc, _+_, _-_, _*_, _/_, _%_, _≤_, _<_}
 use native.Mathlib.Nat.{suc-add, zero-add, add-assoc}
 use native.Mathlib.Omega.{arith}
 use lib.ListN.{length, set, take, drop, length-drop}
 use lib.Pow.{pow-mono}
-use lib.Seq.{getD-take, getD-drop, take-set-lt, drop-set-add, take-take, take-nil, take-length, drop-length, length-take-le, take-at, paste}
+use lib.Seq.{getD-take, getD-drop, take-set-lt, drop-set-add, take-take, take-nil, length-take-le, take-at, paste}
+use Rattle.wire.proofs.CopyLaws.{copy-first}
 use Rattle.bitfield.specs.Field.{withBit, setBit, getField, putField}
 use Rattle.bitfield.proofs.Laws.{get-lt}
 use Rattle.messages.specs.declared.message.Date.{Date}
@@ -16,17 +17,6 @@ use Rattle.plan.specs.Stores.{Entry, rangeOf, copied}
 use Rattle.store.specs.Fields.{Field, fits, read, allFit}
 use Rattle.store.specs.Inner.{InStore}
 use Rattle.store.specs.Contents.{withDate, dateStores}
-
--- ---- a copy to the beginning
-
-pub copy-first : (o s : List ℕ) → paste o 0 s (length s) ≡ s ++ drop (length s) o
-copy-first o s = rw (take-length s, zero-add (length s))
-
-pub copy-all : (o s : List ℕ) → length o ≡ length s → paste o 0 s (length s) ≡ s
-copy-all o s e = copy-first o s ∙ rw (← e, drop-length, append-nil)
-
-pub copy-part : (n : ℕ) (o s : List ℕ) → length o ≡ n → n ≤ length s → paste o 0 (take n s) (length (take n s)) ≡ take n s
-copy-part n o s l h = copy-all o (take n s) (l ∙ sym (length-take-le n s h))
 
 -- ---- a field of some bytes
 

@@ -1,5 +1,7 @@
 pub mod Tests
 pub mod Ways
+pub mod Tables
+pub mod CopyLaws
 pub mod DigitLaws
 pub mod PacketLaws
 pub mod Vectors

@@ -6,7 +6,7 @@ use lib.ListN.{length}
 use lib.Seq.{paste}
 use borrow.Author.Tests.{eq-eqb, ne-eqb}
 use Rattle.layouts.specs.Layouts.{unusedStore}
-use Rattle.store.proofs.FieldLaws.{copy-all}
+use Rattle.wire.proofs.CopyLaws.{copy-all}
 use Rattle.layouts.proofs.UnusedLaws.{unused-length}
 use Rattle.board_c.specs.Exports.{unusedResult, unusedIn}
 use borrow.Author.Needs.{needs}

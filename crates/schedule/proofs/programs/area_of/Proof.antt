@@ -6,7 +6,7 @@ use Prim.Native.Nat.{ℕ}
 use native.Mathlib.Omega.{arith}
 use lib.ListN.{length, take, drop, length-drop}
 use lib.Seq.{paste}
-use Rattle.store.proofs.FieldLaws.{copy-part}
+use Rattle.wire.proofs.CopyLaws.{copy-part}
 use Rattle.schedule.specs.Inner.{areaOf}
 use Rattle.schedule.proofs.programs.area_of.Statement.{statement}
 use Rattle.schedule.proofs.programs.area_of.Tie as tie

@@ -6,7 +6,7 @@ use Prim.Native.Nat.{ℕ, _+_, _≤_}
 use native.Mathlib.Omega.{arith}
 use lib.ListN.{length, take}
 use lib.Seq.{paste, length-take-le}
-use Rattle.store.proofs.FieldLaws.{copy-part}
+use Rattle.wire.proofs.CopyLaws.{copy-part}
 use Rattle.station.proofs.encode.first_sixteen.Statement.{statement}
 use Rattle.station.proofs.encode.first_sixteen.Tie as tie
 

@@ -6,7 +6,7 @@ use Prim.Native.Nat.{ℕ}
 use lib.ListN.{length, drop}
 use lib.Seq.{paste}
 use Rattle.wire.specs.Digits.{padded}
-use Rattle.store.proofs.FieldLaws.{copy-first}
+use Rattle.wire.proofs.CopyLaws.{copy-first}
 use Rattle.store.proofs.contents.padded_tag.Statement.{statement}
 use Rattle.store.proofs.contents.padded_tag.Tie as tie
 

@@ -6,7 +6,7 @@ use Prim.Native.Nat.{ℕ, _+_, _-_, _≤_}
 use native.Mathlib.Omega.{arith}
 use lib.ListN.{length, take, drop, length-drop}
 use lib.Seq.{paste}
-use Rattle.store.proofs.FieldLaws.{copy-part}
+use Rattle.wire.proofs.CopyLaws.{copy-part}
 use Rattle.store.proofs.contents.sixteen_at.Statement.{statement}
 use Rattle.store.proofs.contents.sixteen_at.Tie as tie
 

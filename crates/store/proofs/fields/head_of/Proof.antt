@@ -6,7 +6,7 @@ use Prim.Native.Nat.{ℕ}
 use native.Mathlib.Omega.{arith}
 use lib.ListN.{length, take}
 use lib.Seq.{paste}
-use Rattle.store.proofs.FieldLaws.{copy-part}
+use Rattle.wire.proofs.CopyLaws.{copy-part}
 use Rattle.store.proofs.fields.head_of.Statement.{statement}
 use Rattle.store.proofs.fields.head_of.Tie as tie
 
