@@ -1,0 +1,4 @@
+pub mod DayLaws
+pub mod DateLaws
+pub mod NextDay
+pub mod DayByDay
