@@ -1,8 +1,9 @@
 /*
  * The station's encoder of requests and reader of replies, as C functions on numbers and bytes.
  *
- * Document 01 ('Packet', 'What a good packet does', 'Station') decides what they do, and the names here are its names. Each
- * function is proved to do so for every input. The program that calls it is checked by nothing, so the caller has to keep this:
+ * Document 01 ('Packet', 'What a good packet does', 'Station') and document 02, which amends it, decide what they do, and the names
+ * here are their names. Each function is proved to do so for every input. The program that calls it is checked by nothing, so the
+ * caller has to keep this:
  *
  * - Behind each pointer stand as many elements as the length after it says; behind `size` and `count` stands one.
  * - The buffers and places of one call do not overlap.
@@ -97,11 +98,21 @@ uint8_t station_encode_power_control(uint16_t dest, uint16_t mode, uint8_t *out,
 uint8_t station_encode_date_read(uint16_t dest, uint8_t *out, size_t out_len, size_t *size);
 
 /*
- * Changes the date: year 0 to 99, month 1 to 12, day 1 to 31, weekday 0 to 6 with Sunday 0, hour 0 to 23, minute 0 to 59,
- * daylight 0; 21 where one is outside. Each is judged by itself, so that 31 February is sent.
+ * Changes the date: year 0 to 99, which is 2000 to 2099; month 1 to 12; a day that the month has, 29 February where the year
+ * divides by 4; the weekday that falls on it, which station_weekday tells; hour 0 to 23, minute 0 to 59, daylight 0; 21 for any
+ * other date.
  */
 uint8_t station_encode_date_write(uint16_t dest, uint8_t year, uint8_t month, uint8_t day, uint8_t weekday, uint8_t hour,
                                   uint8_t minute, uint8_t daylight, uint8_t *out, size_t out_len, size_t *size);
+
+/* What station_weekday gives where there is no such day. */
+#define STATION_NO_DAY 7
+
+/*
+ * The weekday that falls on a day, Sunday 0 to Saturday 6. STATION_NO_DAY where the year is past 99, and where the month has no
+ * such day: 31 April, 29 February 2001, any day of a month 0 or 13.
+ */
+uint8_t station_weekday(uint8_t year, uint8_t month, uint8_t day);
 
 /* Asks for the serial number. */
 uint8_t station_encode_serial_read(uint16_t dest, uint8_t *out, size_t out_len, size_t *size);

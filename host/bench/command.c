@@ -99,7 +99,6 @@ static enum status date_request(char **words, int count, struct request *request
 {
     static const char example[] = "type for example: bench date set 2024-02-29 13:45";
     unsigned date[DATE_FIELDS] = {0};
-    int weekday;
 
     request->kind = count == 0 ? STATION_REPLY_DATE_READ : STATION_REPLY_DATE_WRITE;
     if (count == 0)
@@ -109,12 +108,11 @@ static enum status date_request(char **words, int count, struct request *request
     if (date[DATE_YEAR] < 2000 || date[DATE_YEAR] > 2099)
         return say_usage(example, "the board keeps years from 2000 to 2099, not %u", date[DATE_YEAR]);
     date[DATE_YEAR] -= 2000;
-    weekday = weekday_of(date[DATE_YEAR], date[DATE_MONTH], date[DATE_DAY]);
-    if (weekday < 0)
+    date[DATE_WEEKDAY] = station_weekday((uint8_t)date[DATE_YEAR], (uint8_t)date[DATE_MONTH], (uint8_t)date[DATE_DAY]);
+    if (date[DATE_WEEKDAY] == STATION_NO_DAY)
         return say_usage(example, "there is no day %s", words[1]);
     if (date[DATE_HOUR] > 23 || date[DATE_MINUTE] > 59)
         return say_usage(example, "there is no time %s", words[2]);
-    date[DATE_WEEKDAY] = (unsigned)weekday;
     for (size_t i = 0; i < DATE_FIELDS; i++)
         request->date[i] = (uint8_t)date[i];
     return STATUS_DONE;

@@ -125,15 +125,3 @@ void add_date(struct text *text, const uint16_t *date)
     if (date[DATE_DAYLIGHT] != 0)
         text_add(text, ", daylight field %u", date[DATE_DAYLIGHT]);
 }
-
-int weekday_of(unsigned year, unsigned month, unsigned day)
-{
-    static const unsigned lengths[12] = {31, 28, 31, 30, 31, 30, 31, 31, 30, 31, 30, 31};
-    unsigned leap = year % 4 == 0, days = 365 * year + (year + 3) / 4;
-
-    if (year > 99 || month < 1 || month > 12 || day < 1 || day > lengths[month - 1] + (month == 2 ? leap : 0))
-        return -1;
-    for (unsigned m = 1; m < month; m++)
-        days += lengths[m - 1] + (m == 2 ? leap : 0);
-    return (int)((6 + days + day - 1) % 7); /* 1 January 2000 was a Saturday */
-}

@@ -38,7 +38,4 @@ const char *weekday_words(unsigned weekday);
 /* Adds a date, seven numbers in the packet's order. */
 void add_date(struct text *text, const uint16_t *date);
 
-/* The weekday of a day of 2000 to 2099, Sunday 0; -1 where the month has no such day. The year counts from 2000. */
-int weekday_of(unsigned year, unsigned month, unsigned day);
-
 #endif

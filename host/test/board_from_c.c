@@ -1,16 +1,18 @@
 /*
- * Tries every function of board.h. What is expected is worked out here from document 01, and of programs and marks from
- * document 02.
+ * Tries every function of board.h. What is expected is worked out here from document 01, and of programs, marks and days from
+ * document 02. The C library says which days there are, and their weekdays.
  *
  * No sanitizer sees into the library, so in one round every buffer lent to it begins right behind a page that may not be touched,
  * and in another it ends right before one: a read or a write there ends the program. What lies on the other side is compared.
  *
- * Around every call is checked what holds of each: the places for a length and a refusal are written exactly where there is one, a
- * reply fills the start of the buffer and nothing else, and where nothing may change, no byte of state or store does.
+ * Around every call, but for those that try all days of a century, is checked what holds of each: the places for a length and a
+ * refusal are written exactly where there is one, a reply fills the start of the buffer and nothing else, and where nothing may
+ * change, no byte of state or store does.
  */
-#define _DEFAULT_SOURCE /* MAP_ANONYMOUS */
+#define _DEFAULT_SOURCE /* MAP_ANONYMOUS, timegm */
 
 #include "board.h"
+#include "calendar.h"
 
 #include <signal.h>
 #include <stdarg.h>
@@ -907,40 +909,84 @@ static void test_modes(void)
     }
 }
 
-static int date_is_good(const unsigned *date)
+/* A date, its request and the replies to its write and its read. */
+struct dating {
+    unsigned date[7];
+    int is_good;
+    char request[30], written[30], shown[30];
+};
+
+static struct dating dating_of(const unsigned *date)
 {
-    for (int i = 0; i < 6; i++) {
-        if (date[i] < fields[YEAR + i].first || date[i] > fields[YEAR + i].last)
-            return 0;
-    }
-    return date[6] == 0;
+    struct dating d = {.is_good = date_is_good(date)};
+    char digits[20];
+
+    memcpy(d.date, date, sizeof d.date);
+    snprintf(digits, sizeof digits, "%02X%02X%02X%02X%02X%02X%02X", date[0], date[1], date[2], date[3], date[4], date[5], date[6]);
+    snprintf(d.request, sizeof d.request, "C212%s", digits);
+    snprintf(d.written, sizeof d.written, "C312%02X%s", !d.is_good, digits);
+    snprintf(d.shown, sizeof d.shown, "C311%s", digits);
+    return d;
 }
 
-/* Every value of each field of a date, the others being good. */
+static void put_date(uint8_t *store, const unsigned *date)
+{
+    for (int i = 0; i < 6; i++)
+        put_field(store, (enum field)(YEAR + i), date[i]);
+}
+
+/* Every value of each field of a date, the others being good: Saturday, 28 February 2026, 12:30. */
 static void test_dates(void)
 {
     start_used(7);
     for (int field = 0; field < 7; field++) {
         for (unsigned value = 0; value <= 255; value++) {
-            unsigned d[7] = {26, 2, 31, 3, 12, 30, 0};
-            char digits[20], text[30], reply[30];
+            unsigned date[7] = {26, 2, 28, 6, 12, 30, 0};
+            struct dating d;
 
-            d[field] = value;
-            snprintf(digits, sizeof digits, "%02X%02X%02X%02X%02X%02X%02X", d[0], d[1], d[2], d[3], d[4], d[5], d[6]);
-            snprintf(text, sizeof text, "C212%s", digits);
-            snprintf(reply, sizeof reply, "C312%02X%s", !date_is_good(d), digits);
-            GIVE(request_to('G', 'A', text));
-            for (int i = 0; date_is_good(d) && i < 6; i++)
-                put_field(expected, (enum field)(YEAR + i), d[i]);
-            check_reply(__LINE__, packet_of('0', 'G', 'B', reply));
-            snprintf(reply, sizeof reply, "C311%s", digits);
-            if (date_is_good(d))
-                EXCHANGE('A', "C211", 'B', reply);
+            date[field] = value;
+            d = dating_of(date);
+            GIVE(request_to('G', 'A', d.request));
+            if (d.is_good)
+                put_date(expected, date);
+            check_reply(__LINE__, packet_of('0', 'G', 'B', d.written));
+            if (d.is_good)
+                EXCHANGE('A', "C211", 'B', d.shown);
         }
     }
     EXCHANGE('A', "C21200010106000", 'B', null_text);
     EXCHANGE('A', "C212000101060000", 'B', null_text);
     EXCHANGE('A', "C2120001010600000000", 'B', null_text);
+}
+
+/* Every day of the century, the days around each month and the year after the century, with every weekday and one more. There are
+ * so many that nothing is looked at but the last answer of each packet, its reply and the store. */
+static void test_century(void)
+{
+    uint8_t state[BOARD_STATE_SIZE], store[BOARD_STORE_SIZE], reply[BOARD_REPLY_ROOM], refusal;
+    size_t size = 0, good = 0;
+
+    if (at_end) /* buffers lie elsewhere in this round, and none of them here */
+        return;
+    put_used(expected);
+    memcpy(store, expected, sizeof store);
+    CHECK(board_start(1, NULL, 0, NULL, 0, store, sizeof store, state, sizeof state) == 0, "start refused");
+    for (unsigned i = 0; i < 101 * 14 * 33 * 8; i++) {
+        struct dating d = dating_of((unsigned[7]){i / 8 / 33 / 14, i / 8 / 33 % 14, i / 8 % 33, i % 8, i % 24, i % 60, 0});
+        struct packet request = packet_of('A', '0', 'A', d.request), written = packet_of('0', 'A', 'B', d.written);
+        int answer = BOARD_WAITING;
+
+        for (size_t k = 0; k < request.size; k++)
+            answer = board_byte(state, sizeof state, store, sizeof store, request.bytes[k], reply, sizeof reply, &size, &refusal);
+        if (d.is_good)
+            put_date(expected, d.date);
+        good += (size_t)d.is_good;
+        CHECK(answer == BOARD_REPLY && size == written.size && memcmp(reply, written.bytes, size) == 0, "%s: another reply",
+              d.request);
+        CHECK(memcmp(store, expected, sizeof store) == 0, "%s: another store", d.request);
+        memcpy(store, expected, sizeof store); /* so that one wrong date is told once */
+    }
+    CHECK(good == 36525, "%zu good dates in a century", good);
 }
 
 /* Writes a tag and reads it and the former one. */
@@ -1111,6 +1157,55 @@ static void test_programs_to_all(void)
     put_part(expected, 2, FLAGS, 2);
     EXPECT(GIVE(request_to('*', 'A', "C2150200")), BOARD_SILENT);
     EXPECT(GIVE(request_to('*', 'A', "C2150702")), BOARD_SILENT);
+}
+
+/* A date in the ranges of its fields that was stored when no more was asked: it counts as sound, a start on a store with this mark
+ * takes it, it is shown as it is stored, and a date write that is refused leaves it. */
+static void try_stored_date(const unsigned *date, int mark)
+{
+    struct dating d = dating_of(date);
+
+    put_used(expected);
+    put_date(expected, date);
+    expected[0] = (uint8_t)mark;
+    START(1);
+    EXCHANGE('A', "C211", 'B', d.shown);
+    if (d.is_good)
+        return;
+    EXCHANGE('A', d.request, 'B', d.written);
+    EXCHANGE('A', "C211", 'B', d.shown);
+}
+
+/* The 1st to the 31st of every month of 2000 to 2003, with every weekday, on either mark; then every other write beside 31
+ * February. */
+static void test_stored_dates(void)
+{
+    static const unsigned lacking[7] = {1, 2, 31, 5, 12, 30, 0}, good[7] = {1, 3, 1, 4, 0, 0, 0};
+    static const int marks[] = {OLD_MARK, MARK};
+    struct dating stored = dating_of(lacking), next = dating_of(good);
+
+    for (unsigned i = 0; i < 4 * 12 * 31 * 7; i++)
+        for (size_t mark = 0; mark < COUNT(marks); mark++)
+            try_stored_date((unsigned[7]){i / 7 / 31 / 12, i / 7 / 31 % 12 + 1, i / 7 % 31 + 1, i % 7, 23, 59, 0}, marks[mark]);
+    put_used(expected);
+    put_date(expected, lacking);
+    put_field(expected, TAG_LENGTH, 0);
+    START(1);
+    for (size_t i = 0; i < COUNT(settings); i++)
+        try_set(&settings[i], settings[i].unused, 1);
+    try_tag((const uint8_t *)"NEW", 3, "");
+    try_program(good_program);
+    try_enable(good_program[0], 0);
+    GIVE(request_to('A', 'A', "C203D60004"));
+    put_field(expected, POWER, 0);
+    check_reply(__LINE__, packet_of('0', 'A', 'B', "00C203D60004"));
+    EXCHANGE('A', "C211", 'B', stored.shown);
+    START(1);
+    EXCHANGE('A', "C211", 'B', stored.shown);
+    GIVE(request_to('A', 'A', next.request));
+    put_date(expected, good);
+    check_reply(__LINE__, packet_of('0', 'A', 'B', next.written));
+    EXCHANGE('A', "C211", 'B', next.shown);
 }
 
 /* Refusals 1 to 8 */
@@ -1818,12 +1913,14 @@ static void test_packets(void)
     RUN(test_standby);
     RUN(test_modes);
     RUN(test_dates);
+    RUN(test_century);
     RUN(test_tags);
     RUN(test_worked_program);
     RUN(test_programs);
     RUN(test_program_times);
     RUN(test_program_numbers);
     RUN(test_programs_to_all);
+    RUN(test_stored_dates);
     RUN(test_serials_and_models);
     RUN(test_no_start);
     RUN(test_headers);

@@ -12,9 +12,10 @@
  *
  * Faults, single steps and registers are those of Linux on x86-64.
  */
-#define _GNU_SOURCE /* REG_RIP, REG_EFL, memrchr, MAP_ANONYMOUS */
+#define _GNU_SOURCE /* REG_RIP, REG_EFL, memrchr, MAP_ANONYMOUS, timegm */
 
 #include "board.h"
+#include "calendar.h"
 
 #include <setjmp.h>
 #include <signal.h>
@@ -616,17 +617,19 @@ static void expect_power(const uint8_t *digits)
 static void expect_date(const uint8_t *digits)
 {
     uint8_t changed[BOARD_STORE_SIZE];
+    unsigned date[7];
 
-    memcpy(changed, model.store, sizeof changed);
-    for (int i = 0; i < 6; i++) {
-        long value = number(digits + 2 * i, 2);
-
-        if (value < fields[YEAR + i].first || value > fields[YEAR + i].last)
+    for (int i = 0; i < 7; i++) {
+        if (number(digits + 2 * i, 2) < 0)
             return;
-        put_field(changed, YEAR + i, (unsigned)value);
+        date[i] = (unsigned)number(digits + 2 * i, 2);
     }
-    if (number(digits + 12, 2) == 0)
-        plan_fields(DATE_WRITE, changed, YEAR, MINUTE);
+    if (!date_is_good(date))
+        return;
+    memcpy(changed, model.store, sizeof changed);
+    for (int i = 0; i < 6; i++)
+        put_field(changed, YEAR + i, date[i]);
+    plan_fields(DATE_WRITE, changed, YEAR, MINUTE);
 }
 
 /* The old tag, all 16 bytes, becomes the former one; then the new tag; then both lengths. */
@@ -1049,12 +1052,15 @@ static struct request random_power(void)
     return request_of('A', "C203D6%04X", one_in(4) ? below(one_in(2) ? 6 : 0x10000) : one_in(3) ? 4 : 1);
 }
 
+/* Mostly with the weekday that falls on the day. */
 static struct request random_date(void)
 {
     unsigned d[7] = {0};
 
     for (int i = 0; i < 6; i++)
         d[i] = one_in(24) ? below(256) : random_value(YEAR + i);
+    if (!one_in(8))
+        d[3] = weekday_of(d[0], d[1], d[2]);
     if (one_in(24))
         d[6] = below(3);
     return request_of('A', "C212%02X%02X%02X%02X%02X%02X%02X", d[0], d[1], d[2], d[3], d[4], d[5], d[6]);

@@ -1,11 +1,13 @@
 /*
- * Tries every function of station.h. What is expected is worked out here from document 01, and of schedules from document 02.
+ * Tries every function of station.h. What is expected is worked out here from document 01, and of schedules and days from document
+ * 02. The C library says which days there are, and their weekdays.
  *
  * No sanitizer sees into the library, so in one round every buffer lent to it begins right behind a page that may not be touched,
  * and in another it ends right before one: a read or a write there ends the program. What lies on the other side is compared.
  */
-#define _DEFAULT_SOURCE /* MAP_ANONYMOUS */
+#define _DEFAULT_SOURCE /* MAP_ANONYMOUS, timegm */
 
+#include "calendar.h"
 #include "station.h"
 
 #include <signal.h>
@@ -207,8 +209,8 @@ static const struct request every_request[] = {
     {.kind = POWER_CONTROL, .value = 1, .type = 'A', .text = "C203D60001"},
     {.kind = POWER_CONTROL, .value = 4, .type = 'A', .text = "C203D60004"},
     {.kind = DATE_READ, .type = 'A', .text = "C211"},
-    {.kind = DATE_WRITE, .date = {0, 1, 1, 0, 0, 0, 0}, .type = 'A', .text = "C21200010100000000"},
-    {.kind = DATE_WRITE, .date = {99, 12, 31, 6, 23, 59, 0}, .type = 'A', .text = "C212630C1F06173B00"},
+    {.kind = DATE_WRITE, .date = {0, 1, 1, 6, 0, 0, 0}, .type = 'A', .text = "C21200010106000000"},
+    {.kind = DATE_WRITE, .date = {99, 12, 31, 4, 23, 59, 0}, .type = 'A', .text = "C212630C1F04173B00"},
     {.kind = SERIAL_READ, .type = 'A', .text = "C216"},
     {.kind = MODEL_READ, .type = 'A', .text = "C217"},
     {.kind = TAG_READ, .type = 'A', .text = "F010"},
@@ -389,25 +391,72 @@ static void test_modes(void)
     }
 }
 
-/* Every value of each field, the others being good. */
+/* A date write: a packet where the date is good, else 21. */
+static void try_date(const unsigned *d)
+{
+    struct request r = {.kind = DATE_WRITE};
+    char text[20];
+
+    for (int i = 0; i < 7; i++)
+        r.date[i] = (uint8_t)d[i];
+    snprintf(text, sizeof text, "C212%02X%02X%02X%02X%02X%02X%02X", d[0], d[1], d[2], d[3], d[4], d[5], d[6]);
+    if (date_is_good(d))
+        EXPECT_PACKET(&r, 1, STATION_PACKET_ROOM, packet_of('A', '0', 'A', text));
+    else
+        EXPECT_REFUSED(&r, 1, STATION_PACKET_ROOM, STATION_REFUSED_VALUE);
+}
+
+/* Every value of each field, the others being good: Saturday, 28 February 2026, 12:30. */
 static void test_dates(void)
 {
-    static const int first[7] = {0, 1, 1, 0, 0, 0, 0}, last[7] = {99, 12, 31, 6, 23, 59, 0};
+    static const struct request lacking = {.kind = DATE_WRITE, .date = {26, 2, 29, 0, 12, 30, 0}};
 
+    expect_value_refused(__LINE__, &lacking);
     for (int field = 0; field < 7; field++) {
-        for (int value = 0; value <= 255; value++) {
-            struct request r = {.kind = DATE_WRITE, .date = {26, 2, 31, 3, 12, 30, 0}};
-            const uint8_t *d = r.date;
-            char text[20];
+        for (unsigned value = 0; value <= 255; value++) {
+            unsigned d[7] = {26, 2, 28, 6, 12, 30, 0};
 
-            r.date[field] = (uint8_t)value;
-            snprintf(text, sizeof text, "C212%02X%02X%02X%02X%02X%02X%02X", d[0], d[1], d[2], d[3], d[4], d[5], d[6]);
-            if (value < first[field] || value > last[field])
-                expect_value_refused(__LINE__, &r);
-            else
-                EXPECT_PACKET(&r, 1, STATION_PACKET_ROOM, packet_of('A', '0', 'A', text));
+            d[field] = value;
+            try_date(d);
         }
     }
+}
+
+/* Every day of the century, the days around each month and the year after the century, with every weekday and one more. */
+static void test_century(void)
+{
+    unsigned good = 0;
+
+    for (unsigned year = 0; year <= 100; year++)
+        for (unsigned month = 0; month <= 13; month++)
+            for (unsigned day = 0; day <= 32; day++)
+                for (unsigned weekday = 0; weekday <= 7; weekday++) {
+                    unsigned d[7] = {year, month, day, weekday, 0, 0, 0};
+
+                    try_date(d);
+                    good += (unsigned)date_is_good(d);
+                }
+    CHECK(good == 36525, "%u good dates in a century", good);
+}
+
+/* The weekday of every day there is, and none of every other. */
+static void test_weekdays(void)
+{
+    static uint8_t expected[UINT8_MAX + 1][UINT8_MAX + 1][UINT8_MAX + 1];
+    unsigned wrong = 0;
+
+    if (at_end) /* buffers lie elsewhere in this round, and none is lent here */
+        return;
+    memset(expected, STATION_NO_DAY, sizeof expected);
+    for (unsigned year = 0; year <= 99; year++)
+        for (unsigned month = 1; month <= 12; month++)
+            for (unsigned day = 1; day <= 31; day++)
+                expected[year][month][day] = (uint8_t)weekday_of(year, month, day);
+    for (unsigned year = 0; year <= UINT8_MAX; year++)
+        for (unsigned month = 0; month <= UINT8_MAX; month++)
+            for (unsigned day = 0; day <= UINT8_MAX; day++)
+                wrong += station_weekday((uint8_t)year, (uint8_t)month, (uint8_t)day) != expected[year][month][day];
+    CHECK(wrong == 0, "%u other weekdays than the C library's", wrong);
 }
 
 static bool is_time(int hour, int minute)
@@ -962,6 +1011,8 @@ static void test_all(void)
     RUN(test_destinations);
     RUN(test_modes);
     RUN(test_dates);
+    RUN(test_century);
+    RUN(test_weekdays);
     RUN(test_programs);
     RUN(test_program_numbers);
     RUN(test_long_tags);

@@ -1,4 +1,4 @@
--- What a decision's reply is where no bytes stand beside it, and what a text or a count past its 16 bytes comes to.
+-- A date that is accepted may be stored; what a decision's reply is where no bytes stand beside it, and what a text or a count past its 16 bytes comes to.
 use mathlib.Core.Path.{_≡_, refl, sym, ap, _∙_, subst}
 use mathlib.Core.Bool.{true}
 use mathlib.Core.List.{List, [], _∷_}
@@ -7,16 +7,20 @@ use native.Mathlib.Omega.{arith}
 use lib.Dec.{leb}
 use lib.ListN.{length}
 use lib.Seq.{take-append-le}
-use borrow.Author.Tests.{leb-true}
+use borrow.Author.Tests.{leb-true, le-leb}
 use Rattle.plan.specs.Stores.{Entry}
 use Rattle.plan.specs.Plans.{storesOf}
 use Rattle.messages.specs.View.{replyOf, replyCount}
+use Rattle.messages.specs.declared.message.Date.{Date}
 use Rattle.messages.specs.declared.message.ScheduleAnswer.{ScheduleAnswer}
+use Rattle.calendar.specs.Calendar.{isAccepted}
+use Rattle.calendar.proofs.DayLaws.{month-most, day-facts, weekday-most}
+use Rattle.calendar.proofs.DateLaws.{accepted}
 use Rattle.messages.specs.declared.message.Reply.{Reply}
 use Rattle.store.specs.Fields.{Field, read}
 use Rattle.store.specs.Layout.{tagLength, formerLength}
 use Rattle.store.specs.Settings.{settingAt, Listed, found}
-use Rattle.store.specs.Contents.{itemBytes}
+use Rattle.store.specs.Contents.{isStorable, itemBytes}
 use Rattle.store.specs.declared.contents.ItemBytes.{ItemBytes}
 use Rattle.store.specs.declared.settings.Row.{Row}
 use Rattle.store.specs.declared.settings.Found.{Found}
@@ -29,6 +33,29 @@ use Rattle.actions.specs.View.{identityBytes}
 use Rattle.actions.specs.Inner.{Decides, StoreInRange}
 use Rattle.actions.specs.declared.Effect.{Effect}
 use Rattle.actions.specs.declared.Decision.{Decision}
+
+-- a date that is accepted may be stored
+pub accepted-storable : (d : Date) → isAccepted d ≡ true → isStorable d ≡ true
+unfolding isStorable
+accepted-storable d e =
+    let a = accepted d e in
+    let f = day-facts (d .year) (d .month) (d .day) (a .is-day) in
+    let day : d .day ≤ 31 = omega (arith, month-most (d .year) (d .month)) in
+    let weekday : d .weekday ≤ 6 = omega (arith, weekday-most (d .year) (d .month) (d .day)) in
+    rw (
+      le-leb 0 (d .year) (omega arith),
+      le-leb (d .year) 99 (f .year-most),
+      le-leb 1 (d .month) (f .month-least),
+      le-leb (d .month) 12 (f .month-last),
+      le-leb 1 (d .day) (f .day-least),
+      le-leb (d .day) 31 day,
+      le-leb 0 (d .weekday) (omega arith),
+      le-leb (d .weekday) 6 weekday,
+      le-leb 0 (d .hour) (omega arith),
+      le-leb (d .hour) 23 (a .hour),
+      le-leb 0 (d .minute) (omega arith),
+      le-leb (d .minute) 59 (a .minute),
+    )
 
 pub decides-as : {d : Decision} {e f : act.Effect} → Decides d e → e ≡ f → Decides d f
 decides-as {d} h q = subst (λ (e : act.Effect). Decides d e) q h

@@ -14,10 +14,11 @@ use Rattle.messages.specs.Message.Request.{getParameter, setParameter, powerRea
 use Rattle.messages.specs.Message.Reply.{null, getReply, setReply, powerReadReply, powerControlReply, dateReadReply, dateWriteReply, itemReply, tagWriteReply, scheduleReply}
 use Rattle.messages.specs.declared.message.Date.{Date}
 use Rattle.messages.specs.declared.message.Item.{Item}
+use Rattle.calendar.specs.Calendar.{isAccepted}
 use Rattle.store.specs.Fields.{fieldStores}
 use Rattle.store.specs.Layout.{power}
 use Rattle.store.specs.Settings.{fieldOf, settingAt, accepts, kept, current}
-use Rattle.store.specs.Contents.{isOn, dateOf, isAccepted, dateStores, tagOf, formerTagOf, tagStores}
+use Rattle.store.specs.Contents.{isOn, dateOf, dateStores, tagOf, formerTagOf, tagStores}
 use Rattle.store.specs.declared.settings.Row.{Row}
 use Rattle.schedule.specs.Programs.{programStores, enableStores}
 use Rattle.schedule.specs.Numbers as program

@@ -232,7 +232,7 @@ fn date_write(date: Date, store: &[u8]) -> Decision
     requires { ⌜ StoreInRange (now store) ⌝ }
     ensures { λ r. ⌜ Decides r (dateWriteEffect (now (store .entry)) date) ⌝ }
 {
-    if !contents::is_accepted(date) {
+    if !calendar::is_accepted(date) {
         return unchanged(Reply::Date(DateAnswer::Written(Status::Refused, date)));
     }
     let plan = contents::date_stores(store, date);

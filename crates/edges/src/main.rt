@@ -7,6 +7,7 @@ use board::board::StartAnswer;
 use transcript::feed;
 use wire::digits;
 
+mod dates;
 mod schedules;
 
 fn main() {
@@ -16,6 +17,7 @@ fn main() {
     check_codes();
     places();
     serials();
+    dates::all();
     schedules::all();
     stores();
 }
@@ -147,7 +149,7 @@ pub fn show(name: &[u8], id: u8, bytes: &[u8]) {
 }
 
 // Gives a board some bytes, and writes the lines of its answers.
-fn show_lines(first: Board, store: &mut [u8], bytes: &[u8], reply: &mut [u8], out: &mut [u8]) {
+pub fn show_lines(first: Board, store: &mut [u8], bytes: &[u8], reply: &mut [u8], out: &mut [u8]) {
     let mut board = first;
     let mut i: usize = 0;
     while i < bytes.len() {
@@ -240,7 +242,7 @@ fn start_shown(serial: &[u8]) {
 }
 
 // Whether a start is refused, and its number.
-fn show_started(answer: StartAnswer) {
+pub fn show_started(answer: StartAnswer) {
     match answer {
         StartAnswer::Ready => {
             io::write_all(1, b"started\n");

@@ -8,8 +8,7 @@ use native.Mathlib.Nat.{sub-zero, zero-sub, suc-sub-suc}
 use native.Mathlib.Omega.{arith}
 use lib.Dec.{eqb}
 use lib.ListN.{length, drop, replicate}
-use borrow.Author.Tests.{eqb-true, ne-eqb}
-use Rattle.wire.proofs.Tests.{both}
+use borrow.Author.Tests.{le-leb, ne-eqb}
 use Rattle.messages.specs.Message.{IsItem, IsDate}
 use Rattle.messages.specs.Message.Request.{powerRead, powerControl, dateRead, dateWrite, itemRead, tagWrite}
 use Rattle.messages.specs.Message.Reply.{powerReadReply, powerControlReply, dateReadReply, dateWriteReply, itemReply, tagWriteReply}
@@ -17,15 +16,21 @@ use Rattle.messages.specs.declared.message.Date.{Date}
 use Rattle.messages.specs.declared.message.Item.{Item}
 use Rattle.store.specs.Fields.{fieldStores}
 use Rattle.store.specs.Layout.{power, tagLength}
-use Rattle.store.specs.Contents.{isOn, dateOf, isStorable, isAccepted, withDate, dateStores, tagOf, formerTagOf, tagStores}
+use Rattle.calendar.specs.Calendar.{isAccepted}
+use Rattle.calendar.specs.DayByDay.{InDays}
+use Rattle.calendar.proofs.DayLaws.{day-as}
+use Rattle.calendar.proofs.DateLaws.{accepted}
+use Rattle.calendar.proofs.DayByDay.{day-by-day}
+use Rattle.store.specs.Contents.{isOn, dateOf, isStorable, withDate, dateStores, tagOf, formerTagOf, tagStores}
 use Rattle.wire.specs.Digits.{padded}
 use Rattle.store.proofs.StoreLaws.{field-applied}
 use Rattle.layouts.proofs.RangeLaws.{range-fields}
 use Rattle.store.proofs.SettingLaws.{power-moves}
-use Rattle.store.proofs.DateLaws.{storable-fits, date-keeps-field, date-keeps-byte, accepted-shown, date-applied}
+use Rattle.store.proofs.DateLaws.{storable-fits, date-keeps-field, date-keeps-byte, standard-shown, date-applied}
 use Rattle.store.proofs.TagLaws.{TagWritten, tag-written, tag-shown, former-shown}
 use Rattle.calls.specs.Board.{Identity}
 use Rattle.plan.specs.Stores.{applied}
+use Rattle.actions.proofs.Laws.{accepted-storable}
 use Rattle.actions.specs.Act.{replies, says, powerReadEffect, powerControlEffect, dateWriteEffect, itemOf, effectOf}
 use Rattle.packets.specs.Packets.{holding}
 use Rattle.exchange.specs.Rows.{Idle, Ready, Asks, Shows, Changes, isWithin, IsOn, IsStandby, isPowerRead}
@@ -84,11 +89,9 @@ module _ (i : Identity) (m : List ℕ) (ready : Ready i m) where
 
 -- ---- date
 
-taken-is-date : (d : Date) → takesDate d ≡ true → IsDate d
-unfolding isStorable
-taken-is-date d h =
-    let b = both (isStorable d) (eqb (d .daylight) 0) h in
-    let f = storable-fits d (b .0) in
+storable-is-date : (d : Date) → isStorable d ≡ true → d .daylight ≡ 0 → IsDate d
+storable-is-date d h e =
+    let f = storable-fits d h in
     record {
       year = omega arith;
       month = omega arith;
@@ -96,10 +99,22 @@ taken-is-date d h =
       weekday = omega arith;
       hour = omega arith;
       minute = omega arith;
-      daylight = omega (arith, eqb-true (d .daylight) 0 (b .1));
+      daylight = omega arith;
     }
 
-date-elsewhere : (m : List ℕ) (d : Date) → Elsewhere (isWithin 54 30) 54 30 m (withDate m d)
+-- the definition, with the range of the month written out
+pub takes-as : (d : Date) → isAccepted d ≡ takesDate d
+unfolding isAccepted
+takes-as d =
+    rw (le-leb 0 (d .year) (omega arith), le-leb 0 (d .hour) (omega arith), le-leb 0 (d .minute) (omega arith), ← day-as (d .year) (d .month) (d .day))
+
+pub dates-in-days : (d : Date) → takesDate d ≡ true → InDays d
+dates-in-days d h = day-by-day .accepted-in-days d (takes-as d ∙ h)
+
+pub days-taken : (d : Date) → InDays d → d .hour ≤ 23 → d .minute ≤ 59 → d .daylight ≡ 0 → takesDate d ≡ true
+days-taken d i hour minute daylight = sym (takes-as d) ∙ day-by-day .in-days-accepted d i hour minute daylight
+
+pub date-elsewhere : (m : List ℕ) (d : Date) → Elsewhere (isWithin 54 30) 54 30 m (withDate m d)
 date-elsewhere m d =
     elsewhere 54 30 m (withDate m d) (date-keeps-field m d)
     (λ j a. date-keeps-byte m d j (⊎-elim (λ x. inr (omega arith)) (λ x. inl (omega arith)) a))
@@ -119,18 +134,25 @@ module _ (i : Identity) (m : List ℕ) (ready : Ready i m) where
   unfolding effectOf dateOf
   date-read = ready-shows i m ready dateRead tt refl
 
+  pub date-shows : (d : Date) → isStorable d ≡ true → d .daylight ≡ 0 → Idle (holding i []) (withDate m d) → Shows i (withDate m d) dateRead (dateReadReply d)
+  unfolding effectOf
+  date-shows d h e idle =
+      shows i (withDate m d) idle dateRead tt
+      (ap (λ (d : Date). says (dateReadReply d)) (standard-shown m d (omega (arith, rest i m (ready .rests) .size)) h e)) (storable-is-date d h e)
+
   pub date-write : (d : Date) → takesDate d ≡ true
       → Changes i m (dateWrite d) (dateWriteReply 0 d) isDateRead (isWithin 54 30) (λ m′. Shows i m′ dateRead (dateReadReply d))
-  unfolding effectOf dateWriteEffect isAccepted isStorable
+  unfolding effectOf dateWriteEffect
   date-write d h =
-      changes {es = dateStores m d} ready (dateWrite d) (taken-is-date d h) (rw h) (date-applied m d)
-      (date-bytes m d (ready .in-bytes .store)) (date-elsewhere m d) date-clear
-      (λ idle. shows i (withDate m d) idle dateRead tt
-      (ap (λ (d : Date). says (dateReadReply d)) (accepted-shown m d (omega (arith, rest i m (ready .rests) .size)) h)) (taken-is-date d h))
+      let a = takes-as d ∙ h in
+      let s = accepted-storable d a in
+      let none = accepted d a .daylight in
+      changes {es = dateStores m d} ready (dateWrite d) (storable-is-date d s none) (rw a) (date-applied m d)
+      (date-bytes m d (ready .in-bytes .store)) (date-elsewhere m d) date-clear (date-shows d s none)
 
   pub date-refused : (d : Date) → IsDate d → takesDate d ≡ false → Asks i m (dateWrite d) (dateWriteReply 1 d) m
-  unfolding effectOf dateWriteEffect isAccepted isStorable
-  date-refused d is h = ready-shows i m ready (dateWrite d) is (rw h)
+  unfolding effectOf dateWriteEffect
+  date-refused d is h = ready-shows i m ready (dateWrite d) is (rw (takes-as d ∙ h))
 
 -- ---- serial number, model and tags
 

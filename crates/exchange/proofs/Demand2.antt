@@ -4,6 +4,8 @@ use Rattle.exchange.proofs.Requests.{requests}
 use Rattle.exchange.proofs.Replies.{replies-read, erase-read}
 use Rattle.exchange.proofs.Rows.{rows}
 use Rattle.exchange.proofs.ScheduleRows.{schedule-rows}
+use Rattle.exchange.proofs.Contents.{dates-in-days, days-taken}
+use Rattle.exchange.proofs.StoredDates.{stored-dates}
 use Rattle.exchange.proofs.Refusals.{refusal-keeps}
 
 pub demand2 : Demand2
@@ -14,5 +16,8 @@ demand2 =
       erase-read = erase-read;
       rows = rows;
       schedule-rows = schedule-rows;
+      dates-in-days = dates-in-days;
+      days-taken = days-taken;
+      stored-dates = stored-dates;
       refusal-keeps = refusal-keeps;
     }

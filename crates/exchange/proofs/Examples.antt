@@ -33,7 +33,8 @@ use Rattle.store.specs.Settings.{settingAt, current}
 use Rattle.schedule.specs.Programs.{firstInRange, programStores}
 use Rattle.schedule.specs.Numbers as program
 use Rattle.schedule.specs.Numbers.{areZero, keptFields}
-use Rattle.store.specs.Contents.{isOn, dateOf, isAccepted, isStorable, dateStores, withDate, tagOf, formerTagOf, tagStores, withLengths}
+use Rattle.calendar.specs.Calendar.{daysIn, isDay, beforeYear, beforeMonth, weekdayOf, isAccepted}
+use Rattle.store.specs.Contents.{isOn, dateOf, dateStores, withDate, tagOf, formerTagOf, tagStores, withLengths}
 use Rattle.actions.specs.Act.{Effect, replies, begins, powerControlEffect, dateWriteEffect, getEffect, setEffect, powerReadEffect, scheduleWriteEffect, scheduleEnableEffect, scheduleEffect, effectOf, effect}
 use Rattle.packets.specs.Packets.{isIdentity, replyWith, replyFrom, addressee, toOwn, toAll, onPacketTo, onPacket, BoardOutcome}
 use Rattle.board.specs.BoardKind.{eraseReply, boardKind}
@@ -44,6 +45,7 @@ use Rattle.station.specs.Encode.{sends, isInRange, addressIn, encodingTo, encod
 use Rattle.station.specs.declared.encode.Destination.{Destination}
 use Rattle.exchange.specs.Examples as examples
 use Rattle.exchange.specs.Examples.{one, resting, atLastPlace, Seen, Holds, AllHold, p1, p1Reply, p2, p2To8, p3, set80, p4, p5, p6, p7, unknown, p8, status, p9, p10, p10Reply}
+use Rattle.exchange.specs.Examples.{writeLeapDay, leapDayWritten, writeMonday, mondayRefused, writeMissing, missingRefused, earlierShown, datedLeapDay, datedEarlier}
 use Rattle.exchange.specs.Examples.{standbyShown, askDate, dateShown, writeDate, dateWritten, askSerial, serialShown, askModel, modelShown}
 use Rattle.exchange.specs.Examples.{askTag, tagShown, askFormer, formerShown, writeTag, tagWritten, setInput, inputSet, getInput, inputShown}
 use Rattle.exchange.specs.Examples.{setTile, tileRefused, getUnlisted, unlistedShown, tagged, retagged, dated}
@@ -157,6 +159,11 @@ firstDay = record { year = 0; month = 1; day = 1; weekday = 6; hour = 0; minute 
 abbrev lastDay : Date
 lastDay = record { year = 99; month = 12; day = 31; weekday = 4; hour = 23; minute = 59; daylight = 0 }
 
+-- a date in February
+abbrev february : (year day weekday hour minute : ℕ) → Date
+february year day weekday hour minute =
+    record { year = year; month = 2; day = day; weekday = weekday; hour = hour; minute = minute; daylight = 0 }
+
 -- program 0 of an unused board; program 2 from 07:00 to 23:30, and from hour 25
 abbrev notSet : List ℕ
 notSet = 0 ∷ 24 ∷ 60 ∷ 24 ∷ 60 ∷ 0 ∷ 0 ∷ 0 ∷ replicate 8 0
@@ -172,7 +179,7 @@ unfolding AllHold requestType requestText packet xorFrom packetText size twoAt f
     isSound isSoundAs isIdentity mark inRange fieldsInRange firstInRange unusedStore isProperBeginning getField bit bitOf
     requestIn getIn setIn commandIn beginsWith isName bind effectOf getEffect setEffect powerReadEffect powerControlEffect powerControlIn settingAt current isOn fieldStores putField setBit withBit
     replyWith replyType replyText parameterText
-    dateOf dateWriteEffect isAccepted isStorable dateStores withDate tagOf formerTagOf tagStores padded withLengths dateIn octetsIn unhex hexOf dateText
+    dateOf dateWriteEffect isAccepted isDay daysIn weekdayOf beforeYear beforeMonth dateStores withDate tagOf formerTagOf tagStores padded withLengths dateIn octetsIn unhex hexOf dateText
     scheduleReadIn scheduleEnableIn numbersIn scheduleEffect scheduleWriteEffect scheduleEnableEffect program.isAccepted areZero programStores scheduleReplyText
 row-examples-hold =
     let standby = set unusedBytes 6 0x08 in
@@ -181,6 +188,10 @@ row-examples-hold =
     replied standby typeA (packetText status) (powerReadReply 0 4) [] refl status standby refl refl (omega arith) (omega arith) standbyShown refl refl refl
     and replied unusedBytes typeA (packetText askDate) (dateReadReply firstDay) [] refl askDate unusedBytes refl refl (omega arith) (omega arith) dateShown refl refl refl
     and replied unusedBytes typeA (packetText writeDate) (dateWriteReply 0 lastDay) (dateStores unusedBytes lastDay) refl writeDate dated refl refl (omega arith) (omega arith) dateWritten refl refl refl
+    and replied unusedBytes typeA (packetText writeLeapDay) (dateWriteReply 0 (february 0 29 2 0 0)) (dateStores unusedBytes (february 0 29 2 0 0)) refl writeLeapDay datedLeapDay refl refl (omega arith) (omega arith) leapDayWritten refl refl refl
+    and replied datedLeapDay typeA (packetText writeMonday) (dateWriteReply 1 (february 0 29 1 0 0)) [] refl writeMonday datedLeapDay refl refl (omega arith) (omega arith) mondayRefused refl refl refl
+    and replied datedLeapDay typeA (packetText writeMissing) (dateWriteReply 1 (february 1 29 4 0 0)) [] refl writeMissing datedLeapDay refl refl (omega arith) (omega arith) missingRefused refl refl refl
+    and replied datedEarlier typeA (packetText askDate) (dateReadReply (february 0 31 4 12 30)) [] refl askDate datedEarlier refl refl (omega arith) (omega arith) earlierShown refl refl refl
     and replied unusedBytes typeA (packetText askSerial) (itemReply Item.Serial (0x53 ∷ [])) [] refl askSerial unusedBytes refl refl (omega arith) (omega arith) serialShown refl refl refl
     and replied unusedBytes typeA (packetText askModel) (itemReply Item.Model (0x4D ∷ 0x32 ∷ [])) [] refl askModel unusedBytes refl refl (omega arith) (omega arith) modelShown refl refl refl
     and replied tagged typeA (packetText askTag) (itemReply Item.Tag (0x41 ∷ 0x42 ∷ [])) [] refl askTag tagged refl refl (omega arith) (omega arith) tagShown refl refl refl

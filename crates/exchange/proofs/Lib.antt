@@ -10,5 +10,6 @@ pub mod Erase
 pub mod Contents
 pub mod Rows
 pub mod ScheduleRows
+pub mod StoredDates
 pub mod Demand2
 pub mod Examples

@@ -12,7 +12,8 @@ use Rattle.messages.specs.Message.ScheduleRequest.{scheduleRead, scheduleWrite,
 use Rattle.messages.specs.Message.Request.{getParameter, setParameter, powerRead, powerControl, dateRead, dateWrite, itemRead, tagWrite, schedule}
 use Rattle.messages.specs.Read.{requestIn}
 use Rattle.store.specs.Settings.{settingAt, accepts}
-use Rattle.store.specs.Contents.{isOn, isAccepted}
+use Rattle.calendar.specs.Calendar.{isAccepted}
+use Rattle.store.specs.Contents.{isOn}
 use Rattle.store.specs.declared.settings.Row.{Row}
 use Rattle.schedule.specs.Numbers as program
 use Rattle.schedule.specs.Numbers.{isListed, isEnable}

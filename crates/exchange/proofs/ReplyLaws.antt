@@ -29,7 +29,8 @@ use Rattle.store.specs.Fields.{Field, read}
 use Rattle.store.specs.Layout.{year, month, day, weekday, hour, minute, tagLength, formerLength, tagPlace, formerTagPlace}
 use Rattle.layouts.specs.Layouts.{inRange}
 use Rattle.store.specs.Settings.{Listed, fieldOf, settingAt, accepts, shown, current}
-use Rattle.store.specs.Contents.{isOn, dateOf, isAccepted, tagOf, formerTagOf}
+use Rattle.calendar.specs.Calendar.{isAccepted}
+use Rattle.store.specs.Contents.{isOn, dateOf, tagOf, formerTagOf}
 use Rattle.store.specs.declared.settings.Values.{Values}
 use Rattle.store.specs.declared.settings.Row.{Row}
 use Rattle.store.proofs.SettingLaws.{each-setting, row-in-store, setting-listed}

@@ -1,6 +1,8 @@
--- DEMAND 2 of board and station together (docs/RULES.md, 'Demand 2', RT1 and RT2, the message table, AC1 to AC11, and 'Schedules', S1 to S6).
+-- DEMAND 2 of board and station together (docs/RULES.md, 'Demand 2', RT1 and RT2, the message table, AC1 to AC11, 'Schedules', S1 to S6, and 'Calendar', K1
+-- and K2).
 -- A request that the station writes is read by an idle board that it addresses as that request; a reply that a board writes is read by
 -- the station with each value intact; and each row of the message table does what Rows.antt and ScheduleRows.antt say of it.
+use mathlib.Core.Bool.{true}
 use mathlib.Core.List.{List, [], _∷_, _++_}
 use mathlib.Core.Path.{_≡_}
 use Prim.Native.Nat.{ℕ, _-_, _≤_}
@@ -9,6 +11,8 @@ use Rattle.wire.specs.Packet.{size, packetText}
 use Rattle.messages.specs.Message.{Request, Reply, IsRequest}
 use Rattle.messages.specs.Message.Reply.{setReply}
 use Rattle.messages.specs.Read.{requestIn}
+use Rattle.messages.specs.declared.message.Date.{Date}
+use Rattle.calendar.specs.DayByDay.{InDays}
 use Rattle.calls.specs.Board.{Identity, reply}
 use Rattle.calls.specs.Calls.{onCall, onStep}
 use Rattle.calls.specs.Lists.{run}
@@ -20,8 +24,9 @@ use Rattle.board.specs.Demand3.{Events}
 use Rattle.station.specs.Encode.{sends, encoding}
 use Rattle.station.specs.Read as station
 use Rattle.station.specs.declared.encode.Destination.{Destination}
-use Rattle.exchange.specs.Rows.{Idle, InBytes, Ready, Rows, RefusalKeeps}
+use Rattle.exchange.specs.Rows.{Idle, InBytes, Ready, takesDate, Rows, RefusalKeeps}
 use Rattle.exchange.specs.ScheduleRows.{ScheduleRows}
+use Rattle.exchange.specs.StoredDates.{StoredDates}
 
 -- ---- a request that is sent
 
@@ -67,5 +72,10 @@ pub record Demand2 : Type 0 where
   -- each row of the message table, and those of the schedules
   pub rows : (i : Identity) (m : List ℕ) → Ready i m → Rows i m
   pub schedule-rows : (i : Identity) (m : List ℕ) → Ready i m → ScheduleRows i m
+  -- the dates that the rows take are the times of 36,525 days in a row, from Saturday 1 January 2000 on, each with its weekday
+  pub dates-in-days : (d : Date) → takesDate d ≡ true → InDays d
+  pub days-taken : (d : Date) → InDays d → d .hour ≤ 23 → d .minute ≤ 59 → d .daylight ≡ 0 → takesDate d ≡ true
+  -- a date that was stored before days and weekdays were asked for
+  pub stored-dates : (i : Identity) (m : List ℕ) → Ready i m → StoredDates i m
   -- and what is refused changes no stored byte
   pub refusal-keeps : RefusalKeeps

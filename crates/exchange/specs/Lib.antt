@@ -1,4 +1,5 @@
 pub mod Rows
 pub mod ScheduleRows
+pub mod StoredDates
 pub mod Demand2
 pub mod Examples

@@ -20,6 +20,7 @@ use Rattle.messages.specs.Message.Reply.{null, getReply, setReply, powerReadRep
 use Rattle.messages.specs.Text.{requestType, requestText}
 use Rattle.messages.specs.declared.message.Date.{Date}
 use Rattle.messages.specs.declared.message.Item.{Item}
+use Rattle.calendar.specs.Calendar.{daysIn, weekdayOf}
 use Rattle.calls.specs.Board.{Identity, Answer, silent, begun, reply, idle, pending, after}
 use Rattle.calls.specs.Calls.{isSound, onCall}
 use Rattle.calls.specs.Lists.{answered, started, unstarted, run}
@@ -204,11 +205,11 @@ dateIn m =
       daylight = 0;
     }
 
--- the dates that a date write accepts
+-- the dates that a date write accepts; Demand2.antt says which days these are without the count of days that `weekdayOf` is made of
 abbrev pub takesDate : Date → Bool
 takesDate d =
-    between 0 99 (d .year) && between 1 12 (d .month) && between 1 31 (d .day)
-    && between 0 6 (d .weekday) && between 0 23 (d .hour) && between 0 59 (d .minute) && eqb (d .daylight) 0
+    between 0 99 (d .year) && between 1 12 (d .month) && between 1 (daysIn (d .year) (d .month)) (d .day)
+    && eqb (d .weekday) (weekdayOf (d .year) (d .month) (d .day)) && between 0 23 (d .hour) && between 0 59 (d .minute) && eqb (d .daylight) 0
 
 abbrev pub isDateRead : Request → Bool
 isDateRead (getParameter page code) = false

@@ -13,7 +13,6 @@ use Rattle.bitfield.proofs.Laws.{get-lt}
 use Rattle.wire.proofs.Tests.{cond-by, both}
 use Rattle.messages.specs.Message.{Request, Reply}
 use Rattle.messages.specs.Message.Reply.{getReply}
-use Rattle.store.specs.Contents.{isStorable, isAccepted}
 use Rattle.store.proofs.Tables.{either}
 use Rattle.schedule.proofs.NumberLaws.{accepted-listed}
 use Rattle.calls.specs.Board.{Identity}
@@ -25,6 +24,7 @@ use Rattle.station_c.specs.Encode.{encodeScheduleRead, encodeScheduleWrite, enc
 use Rattle.station_c.specs.Encode.{requestFor}
 use Rattle.exchange.specs.Rows.{Ready, Asks, Shows, Changes, Rows, Setting, table, IsStandby, shownAfter}
 use Rattle.exchange.specs.ScheduleRows.{ScheduleRows}
+use Rattle.exchange.proofs.Contents.{takes-as}
 use Rattle.exchange.proofs.Rows.{rows}
 use Rattle.exchange.proofs.ScheduleRows.{schedule-rows}
 use Rattle.exchange_c.specs.Demand2.{IsPassed, isErase, isEraseCall, Told, rowAt, isOn, got, set, passedProgram, tells, ById, Reads, accepts, SetLeaves, Leaves, Exchanged}
@@ -193,7 +193,6 @@ module _ (i : Identity) (m : List ℕ) (ready : Ready i m) where
   power-asked false e = shown encodePowerRead (all .power-standby (standby-told m e)) refl
 
   call-asked : (c : Call) → IsPassed c → isTaken c ≡ true → isEraseCall c ≡ false → Asked i m c (tells i m c)
-  unfolding isAccepted isStorable
   call-asked (encodeGet page code) h t other = get-asked page code (h .0) (h .1)
   call-asked (encodeSet page code v) h t other = set-asked page code (h .0) (h .1) v (h .2) other
   call-asked encodePowerRead h t other = power-asked (isOn m) refl
@@ -203,7 +202,7 @@ module _ (i : Identity) (m : List ℕ) (ready : Ready i m) where
   call-asked encodeDateRead h t other = shown encodeDateRead (all .date-read) refl
   call-asked (encodeDateWrite yy mm dd ww hh mn ds) h t other =
       let c = encodeDateWrite yy mm dd ww hh mn ds in
-      let x = all .date-write _ (taken-as c ∙ t) in
+      let x = all .date-write _ (sym (takes-as _) ∙ (taken-as c ∙ t)) in
       changed c x (asked-by-id i (x .left) encodeDateRead (x .ready) refl (x .shown))
   call-asked encodeSerialRead h t other = shown encodeSerialRead (all .serial-read) refl
   call-asked encodeModelRead h t other = shown encodeModelRead (all .model-read) refl

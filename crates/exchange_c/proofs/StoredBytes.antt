@@ -23,7 +23,8 @@ use Rattle.store.specs.Fields.{Field, fieldStores}
 use Rattle.store.specs.Layout.{power, restPlace}
 use Rattle.layouts.specs.Layouts.{olderMark, layoutMark, isLayout, fitsLayout, conversion, unusedStore}
 use Rattle.store.specs.Settings.{settingAt, accepts, kept, fieldOf}
-use Rattle.store.specs.Contents.{isOn, isAccepted}
+use Rattle.calendar.specs.Calendar.{isAccepted}
+use Rattle.store.specs.Contents.{isOn}
 use Rattle.store.specs.declared.settings.Row.{Row}
 use Rattle.store.proofs.Tables.{each}
 use Rattle.store.proofs.StoreLaws.{field-applied}

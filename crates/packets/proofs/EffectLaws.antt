@@ -22,7 +22,7 @@ use Rattle.messages.specs.declared.message.Date.{Date}
 use Rattle.store.specs.Fields.{Field, fits, fieldStores}
 use Rattle.store.specs.Layout.{power}
 use Rattle.store.specs.Settings.{fieldOf, settingAt, accepts, kept}
-use Rattle.store.specs.Contents.{isOn, isStorable, isAccepted, dateStores, tagStores}
+use Rattle.store.specs.Contents.{isOn, isStorable, dateStores, tagStores}
 use Rattle.store.specs.declared.settings.Row.{Row}
 use Rattle.store.proofs.StoreLaws.{isField, field-placed, field-keeps-mark, field-keeps-rest, field-applied, field-few, field-within}
 use Rattle.store.proofs.SettingLaws.{setting-listed, setting-field, kept-fits}
@@ -32,10 +32,12 @@ use Rattle.layouts.specs.Layouts.{inRange}
 use Rattle.layouts.proofs.RangeLaws.{range-write, range-date, range-tag, range-program, range-enable}
 use Rattle.layouts.proofs.SpareLaws.{SpareKept, spare-same, spare-rest, spare-program, spare-enable}
 use Rattle.schedule.specs.Programs.{programStores, enableStores, enableField}
+use Rattle.calendar.specs.Calendar.{isAccepted}
 use Rattle.schedule.specs.Numbers.{isAccepted as accepts-program, isListed, isEnable, keptFields}
 use Rattle.schedule.proofs.ProgramLaws.{program-applied, program-count, program-within, program-keeps-byte, enable-applied, enable-count, enable-within}
 use Rattle.schedule.proofs.NumberLaws.{accepted-listed, kept-fit, kept-in-range}
 use Rattle.calls.specs.Board.{Identity}
+use Rattle.actions.proofs.Laws.{accepted-storable}
 use Rattle.actions.specs.Act.{
   Effect,
   replies,
@@ -129,16 +131,14 @@ module _ (m : List ℕ) (size : length m ≡ 128) (ranged : inRange m ≡ true) 
         ranged = rw is (range-write m size ranged f v e (omega arith) h);
       }
 
-  date-keeps : (d : Date) → isAccepted d ≡ true → Keeps m (dateStores m d)
-  unfolding isAccepted
+  pub date-keeps : (d : Date) → isStorable d ≡ true → Keeps m (dateStores m d)
   date-keeps d h =
       let is = date-applied m d in
-      let storable = both (isStorable d) (eqb (d .daylight) 0) h .0 in
       record {
         ready = record { few = omega (arith, date-count m d (omega arith)); within = within-head (dateStores m d) (date-within m d) };
         mark = rw is (date-keeps-byte m d 0 (inl (omega arith)));
         spare = rw is (spare-rest m _ (date-keeps-rest m d));
-        ranged = rw is (range-date m size ranged d storable);
+        ranged = rw is (range-date m size ranged d h);
       }
 
   tag-keeps : (tag : List ℕ) → length tag ≤ 16 → Keeps m (tagStores m tag)
@@ -200,7 +200,7 @@ module _ (m : List ℕ) (size : length m ≡ 128) (ranged : inRange m ≡ true) 
       cond-by (Kept m) (eqb mode 1) _ _ (λ _. field-keeps power 1 refl refl)
       (λ _. cond-by (Kept m) (eqb mode 4) _ _ (λ _. field-keeps power 0 refl refl) (λ _. none-keeps))
   request-keeps i dateRead h = none-keeps
-  request-keeps i (dateWrite d) h = cond-by (Kept m) (isAccepted d) _ _ (λ t. date-keeps d t) (λ _. none-keeps)
+  request-keeps i (dateWrite d) h = cond-by (Kept m) (isAccepted d) _ _ (λ t. date-keeps d (accepted-storable d t)) (λ _. none-keeps)
   request-keeps i (itemRead x) h = none-keeps
   request-keeps i (tagWrite tag) h = tag-keeps tag h
   request-keeps i (schedule r) h = schedule-keeps r

@@ -26,9 +26,10 @@ use Rattle.layouts.specs.Layouts.{inRange}
 use Rattle.layouts.proofs.RangeLaws.{range-fields}
 use Rattle.store.specs.Layout.{tagLength, formerLength, tagPlace, formerTagPlace}
 use Rattle.store.specs.Settings.{settingAt, accepts}
-use Rattle.store.specs.Contents.{isOn, isAccepted, tagOf, formerTagOf}
+use Rattle.store.specs.Contents.{isOn, tagOf, formerTagOf}
 use Rattle.store.specs.declared.settings.Row.{Row}
 use Rattle.store.proofs.StoreLaws.{isField, in-range-one}
+use Rattle.calendar.specs.Calendar.{isAccepted}
 use Rattle.schedule.specs.Numbers.{isAccepted as accepts-program, isListed, isEnable, shownProgram}
 use Rattle.schedule.proofs.NumberLaws.{shown-length}
 use Rattle.calls.specs.Board.{Identity}

@@ -29,7 +29,7 @@ use Rattle.messages.specs.declared.message.Request.{Request}
 use Rattle.messages.specs.declared.message.ScheduleRequest.{ScheduleRequest}
 use Rattle.messages.specs.declared.write.Written.{Written}
 use Rattle.messages.proofs.message.Request.{the-type}
-use Rattle.store.specs.Contents.{isAccepted}
+use Rattle.calendar.specs.Calendar.{isAccepted}
 use Rattle.station.specs.Encode.{Encoding, refused, addressIn, isScheduleInRange, isInRange, encodingTo, encodingOf, encoding, Encodes}
 use Rattle.station.specs.Inner.{addressAs}
 use Rattle.station.specs.declared.encode.Address.{Address}

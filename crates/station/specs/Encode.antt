@@ -12,7 +12,7 @@ use Rattle.messages.specs.Message.{ScheduleRequest, Request}
 use Rattle.messages.specs.Message.ScheduleRequest.{scheduleRead, scheduleWrite, scheduleEnable}
 use Rattle.messages.specs.Message.Request.{getParameter, setParameter, powerRead, powerControl, dateRead, dateWrite, itemRead, tagWrite, schedule}
 use Rattle.messages.specs.Text.{requestType, requestText}
-use Rattle.store.specs.Contents as date
+use Rattle.calendar.specs.Calendar as date
 use Rattle.schedule.specs.Numbers as program
 use Rattle.station.specs.declared.encode.Destination.{Destination}
 use Rattle.station.specs.declared.encode.Encoded.{Encoded}

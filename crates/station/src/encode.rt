@@ -15,7 +15,6 @@ use messages::message::Request;
 use messages::message::ScheduleRequest;
 use messages::write;
 use schedule::numbers;
-use store::contents;
 use wire::digits;
 use wire::packet;
 use wire::refusal::Refusal;
@@ -158,7 +157,7 @@ fn is_in_range(request: Request, bytes: &[u8]) -> bool
             return (mode == 1) | (mode == 4);
         }
         Request::DateWrite(date) => {
-            return contents::is_accepted(date);
+            return calendar::is_accepted(date);
         }
         Request::Schedule(asked) => {
             return is_schedule_in_range(asked, bytes);

@@ -1,13 +1,11 @@
 -- The encoder and the reader for C refuse a call with the first of its checks that fails: the definitions test in the same order.
 use mathlib.Core.Bool.{Bool, true, false, cond, not, _&&_, _||_, and-true}
 use mathlib.Core.List.{List, [], _∷_}
-use mathlib.Core.Logic.{⊎-elim}
 use mathlib.Core.Option.{Option, none, some}
-use mathlib.Core.Path.{_≡_, refl, sym}
+use mathlib.Core.Path.{_≡_, refl, sym, _∙_}
 use Prim.Native.Nat.{ℕ, _+_, _≤_}
-use native.Mathlib.Nat.{eq-or-lt-of-le}
 use native.Mathlib.Omega.{arith}
-use borrow.Author.Tests.{le-leb, lt-leb, ne-eqb, ltb-true, ltb-false, leb-true, eqb-true, eqb-false, not-false}
+use borrow.Author.Tests.{le-leb, lt-leb, ne-eqb, ltb-true, ltb-false, leb-true, leb-false, eqb-true, not-false}
 use lib.Dec.{ltb, leb, eqb}
 use lib.ListN.{length, getD}
 use Rattle.wire.specs.Digits.{twoAt}
@@ -19,8 +17,9 @@ use Rattle.wire.proofs.Tests.{cond-by, both}
 use Rattle.messages.specs.Message.{Reply}
 use Rattle.messages.specs.Read.{replyIn}
 use Rattle.replies.specs.View.{orRefused}
-use Rattle.store.specs.Contents as date
-use Rattle.store.specs.Contents.{isStorable}
+use Rattle.calendar.specs.Calendar as date
+use Rattle.calendar.specs.Calendar.{daysIn, isDay, weekdayOf}
+use Rattle.calendar.proofs.DayLaws.{day-as, weekday-most}
 use Rattle.schedule.proofs.TimeLaws.{time-as}
 use Rattle.schedule.specs.Numbers as program
 use Rattle.schedule.specs.Numbers.{areZero}
@@ -34,21 +33,21 @@ use Rattle.station.specs.declared.encode.Destination.{Destination}
 use Rattle.station_c.specs.Encode.{Call, encodeGet, encodeSet, encodePowerRead, encodePowerControl, encodeDateRead, encodeDateWrite}
 use Rattle.station_c.specs.Encode.{encodeSerialRead, encodeModelRead, encodeTagRead, encodeFormerTagRead, encodeTagWrite}
 use Rattle.station_c.specs.Encode.{encodeScheduleRead, encodeScheduleWrite, encodeScheduleEnable}
-use Rattle.station_c.specs.Encode.{requestFor, destinationOf, encodingFor}
+use Rattle.station_c.specs.Encode.{requestFor, destinationOf, encodingFor, weekdayFor}
 use Rattle.station_c.specs.Read.{readInto}
 use Rattle.station_c.specs.Checks.{encodingRefusal, isTaken, encoderChecks, readingRefusal, isItsLength, isSome, readerChecks, sizeBy, Refusals}
 
 -- ---- the encoder
 
 pub taken-as : (c : Call) → isInRange (requestFor c) ≡ isTaken c
-unfolding date.isAccepted isStorable program.isAccepted areZero
+unfolding date.isAccepted program.isAccepted areZero
 taken-as (encodeGet page code) = refl
 taken-as (encodeSet page code value) = refl
 taken-as encodePowerRead = refl
 taken-as (encodePowerControl mode) = refl
 taken-as encodeDateRead = refl
 taken-as (encodeDateWrite yy mm dd ww hh mn ds) =
-    rw (le-leb 0 yy (omega arith), le-leb 0 ww (omega arith), le-leb 0 hh (omega arith), le-leb 0 mn (omega arith))
+    rw (day-as yy mm dd)
 taken-as encodeSerialRead = refl
 taken-as encodeModelRead = refl
 taken-as encodeTagRead = refl
@@ -58,6 +57,24 @@ taken-as (encodeScheduleRead program) = refl
 taken-as (encodeScheduleWrite program on_hour on_minute off_hour off_minute input week flags) =
     rw (time-as on_hour on_minute, time-as off_hour off_minute) (and-true _)
 taken-as (encodeScheduleEnable program enable) = refl
+
+-- a weekday that falls on a day is up to 6, and 7 is not
+weekday-as : (there : Bool) (w ww : ℕ) → w ≤ 6 → (there && eqb ww w) ≡ (leb ww 6 && eqb ww (cond there w 7))
+weekday-as there w ww h = by there (leb ww 6) refl
+  where
+    by : (there small : Bool) → leb ww 6 ≡ small → (there && eqb ww w) ≡ (leb ww 6 && eqb ww (cond there w 7))
+    by true true e = rw e
+    by true false e = rw (e, ne-eqb ww w (λ q. omega (arith, leb-false ww 6 e)))
+    by false true e = rw (e, ne-eqb ww 7 (λ q. omega (arith, leb-true ww 6 e)))
+    by false false e = rw e
+
+weekday : (yy mm dd ww hh mn : ℕ)
+    → isTaken (encodeDateWrite yy mm dd ww hh mn 0) ≡ (leb ww 6 && eqb ww (weekdayFor yy mm dd) && leb hh 23 && leb mn 59)
+weekday yy mm dd ww hh mn =
+    rw (day-as yy mm dd, weekday-as (isDay yy mm dd) (weekdayOf yy mm dd) ww (weekday-most yy mm dd)) (and-true _)
+
+no-day : (yy mm dd : ℕ) → (leb yy 99 && (leb 1 mm && leb mm 12) && (leb 1 dd && leb dd (daysIn yy mm))) ≡ false → weekdayFor yy mm dd ≡ 7
+no-day yy mm dd e = rw (sym (day-as yy mm dd) ∙ e)
 
 -- ALL by its test, an ID by its own
 address-as : (all : Bool) (n : ℕ)
@@ -169,4 +186,4 @@ read-behind numbers bytes p id r =
     (λ _ e. let z : _≡_ {A = ℕ} 0 1 = cc in absurd (omega arith)) (λ _ e. e)
 
 pub refusals : Refusals
-refusals = record { encoder = encoder; reader = λ numbers bytes p. reader p numbers bytes; size = reply-size; most = most; framed = λ numbers bytes p id r e. read-framed p (read-behind numbers bytes p id r e); written = λ numbers bytes p id r e. read-written p (read-behind numbers bytes p id r e) }
+refusals = record { encoder = encoder; weekday = weekday; no-day = no-day; reader = λ numbers bytes p. reader p numbers bytes; size = reply-size; most = most; framed = λ numbers bytes p id r e. read-framed p (read-behind numbers bytes p id r e); written = λ numbers bytes p id r e. read-written p (read-behind numbers bytes p id r e) }

@@ -11,8 +11,8 @@ use Rattle.messages.specs.Message.{Reply, replyBytes}
 use Rattle.messages.specs.Text.{dateText, scheduleText, requestType, requestText}
 use Rattle.messages.specs.Read.{beginsWith, isName, flagAt, modeAt, dateIn, parameterIn, powerReadReplyIn, powerControlReplyIn, dateWriteReplyIn}
 use Rattle.messages.specs.Read.{tagWriteReplyIn, numbersIn, scheduleWriteReplyIn, scheduleEnableReplyIn, plainReplyIn, commandReplyIn, replyIn}
-use Rattle.store.specs.Contents as date
-use Rattle.store.specs.Contents.{isStorable}
+use Rattle.calendar.specs.Calendar as date
+use Rattle.calendar.specs.Calendar.{daysIn, isDay, beforeYear, beforeMonth, weekdayOf}
 use Rattle.schedule.specs.Numbers as program
 use Rattle.schedule.specs.Numbers.{areZero}
 use Rattle.station.specs.Encode as encode
@@ -45,7 +45,7 @@ _and_ : {A B : Type 0} → A → B → A × B
 a and b = (a, b)
 
 pub worked-hold : AllHold worked
-unfolding AllHold destinationOf encodingOf date.isAccepted isStorable program.isAccepted areZero requestType requestText dateText scheduleText
+unfolding AllHold destinationOf encodingOf date.isAccepted isDay daysIn weekdayOf beforeYear beforeMonth program.isAccepted areZero requestType requestText dateText scheduleText
     hexOf packet xorFrom readInto readPacket replyVerdict isReplyHeader isWholeLength isLength size endsInReturn hasCheckCode checkCode
     replyInMessage isMessage packetText twoAt fourAt valueOf beginsWith isName flagAt modeAt bind dateIn octetsIn unhex
     replyIn parameterIn commandReplyIn tagWriteReplyIn plainReplyIn dateWriteReplyIn powerReadReplyIn powerControlReplyIn
@@ -53,22 +53,25 @@ unfolding AllHold destinationOf encodingOf date.isAccepted isStorable program.is
 worked-hold =
     sent refl and sent refl and sent refl and sent refl and sent refl and sent refl and sent refl and sent refl and
     sent refl and sent refl and sent refl and sent refl and sent refl and sent refl and sent refl and sent refl and
-    sent refl and sent refl and sent refl and sent refl and unsent refl and unsent refl and unsent refl and unsent refl and
+    sent refl and sent refl and sent refl and sent refl and sent refl and sent refl and sent refl and sent refl and
+    sent refl and unsent refl and unsent refl and unsent refl and unsent refl and unsent refl and unsent refl and unsent refl and
     unsent refl and unsent refl and unsent refl and unsent refl and unsent refl and unsent refl and unsent refl and unsent refl and
     unsent refl and unsent refl and unsent refl and unsent refl and unsent refl and unsent refl and unsent refl and unsent refl and
     unsent refl and unsent refl and unsent refl and unsent refl and unsent refl and unsent refl and unsent refl and unsent refl and
     unsent refl and unsent refl and unsent refl and unsent refl and unsent refl and unsent refl and unsent refl and unsent refl and
-    unsent refl and unsent refl and told refl and told refl and told refl and told refl and told refl and told refl and
+    unsent refl and unsent refl and unsent refl and unsent refl and unsent refl and told refl and told refl and told refl and
     told refl and told refl and told refl and told refl and told refl and told refl and told refl and told refl and
     told refl and told refl and told refl and told refl and told refl and told refl and told refl and told refl and
-    told refl and told refl and untold refl and untold refl and untold refl and untold refl and untold refl and untold refl and
+    told refl and told refl and told refl and told refl and told refl and untold refl and untold refl and untold refl and
     untold refl and untold refl and untold refl and untold refl and untold refl and untold refl and untold refl and untold refl and
     untold refl and untold refl and untold refl and untold refl and untold refl and untold refl and untold refl and untold refl and
     untold refl and untold refl and untold refl and untold refl and untold refl and untold refl and untold refl and untold refl and
     untold refl and untold refl and untold refl and untold refl and untold refl and untold refl and untold refl and untold refl and
     untold refl and untold refl and untold refl and untold refl and untold refl and untold refl and untold refl and untold refl and
     untold refl and untold refl and untold refl and untold refl and untold refl and untold refl and untold refl and untold refl and
-    untold refl and untold refl and untold refl and untold refl and refl and refl and refl and refl and
+    untold refl and untold refl and untold refl and untold refl and untold refl and untold refl and untold refl and refl and
+    refl and refl and refl and refl and refl and refl and refl and refl and
+    refl and refl and refl and refl and refl and refl and refl and refl and
     refl and refl and refl and refl and refl and refl and refl and refl and
     refl and
     tt

@@ -1,5 +1,5 @@
--- Every refusal of the encoder and of the reader for C, and the length that first bytes tell (docs/RULES.md, 'Station', EN1, RD1, XC1 and XC2), their
--- numbers written out; digits, the exclusive or and the replies' texts are those of `wire` and `messages`. A call is refused with the number of the
+-- Every refusal of the encoder and of the reader for C, the weekday of a day and the length that first bytes tell (docs/RULES.md, 'Station', EN1, RD1, XC1,
+-- XC2 and XC4), their numbers written out; digits, the exclusive or, the replies' texts and the calendar are those of their crates. A call is refused with the number of the
 -- first check that fails, and goes on where none does.
 use mathlib.Core.Bool.{Bool, true, false, cond, not, _&&_, _||_}
 use mathlib.Core.List.{List, [], _∷_}
@@ -14,11 +14,12 @@ use Rattle.wire.specs.Checks.{Check, firstFailed}
 use Rattle.messages.specs.Message.{Reply, IsReply}
 use Rattle.messages.specs.Text.{replyType, replyText}
 use Rattle.messages.specs.Read.{replyIn}
+use Rattle.calendar.specs.Calendar.{daysIn, weekdayOf}
 use Rattle.station.specs.Encode as encode
 use Rattle.station.specs.Read as read
 use Rattle.station.specs.Read.{replySize}
 use Rattle.station_c.specs.Encode.{Call, encodeGet, encodeSet, encodePowerRead, encodePowerControl, encodeDateRead, encodeDateWrite}
-use Rattle.station_c.specs.Encode.{encodeSerialRead, encodeModelRead, encodeTagRead, encodeFormerTagRead, encodeTagWrite, encodingFor}
+use Rattle.station_c.specs.Encode.{encodeSerialRead, encodeModelRead, encodeTagRead, encodeFormerTagRead, encodeTagWrite, encodingFor, weekdayFor}
 use Rattle.station_c.specs.Encode.{encodeScheduleRead, encodeScheduleWrite, encodeScheduleEnable}
 use Rattle.station_c.specs.Read.{readInto}
 
@@ -36,7 +37,8 @@ isDestination n = (leb 1 n && leb n 8) || eqb n 256
 abbrev pub isOnOff : ℕ → ℕ → Bool
 isOnOff hour minute = leb hour 24 && leb minute 60 && cond (eqb hour 24) (eqb minute 60) (not (eqb minute 60))
 
--- modes 1 and 4, dates in their ranges, tags of at most 16 bytes, programs 0 to 6 with what they may hold, enable 0 or 1; any page, code and value
+-- modes 1 and 4; days that their month has, with the weekday that falls on them, hours to 23, minutes to 59, DS 0; tags of at most 16 bytes; programs 0 to 6
+-- with what they may hold; enable 0 or 1; any page, code and value
 abbrev pub isTaken : Call → Bool
 isTaken (encodeGet page code) = true
 isTaken (encodeSet page code value) = true
@@ -44,7 +46,8 @@ isTaken encodePowerRead = true
 isTaken (encodePowerControl mode) = eqb mode 1 || eqb mode 4
 isTaken encodeDateRead = true
 isTaken (encodeDateWrite yy mm dd ww hh mn ds) =
-    leb yy 99 && (leb 1 mm && leb mm 12) && (leb 1 dd && leb dd 31) && leb ww 6 && leb hh 23 && leb mn 59 && eqb ds 0
+    leb yy 99 && (leb 1 mm && leb mm 12) && (leb 1 dd && leb dd (daysIn yy mm)) && eqb ww (weekdayOf yy mm dd)
+    && leb hh 23 && leb mn 59 && eqb ds 0
 isTaken encodeSerialRead = true
 isTaken encodeModelRead = true
 isTaken encodeTagRead = true
@@ -112,6 +115,10 @@ pub record Refusals : Type 0 where
   pub encoder : (room dest : ℕ) (c : Call) → encodingRefusal (encodingFor room dest c) ≡ firstFailed (encoderChecks room dest c)
   pub reader : (numbers bytes : ℕ) (p : List ℕ) → readingRefusal (readInto numbers bytes p) ≡ firstFailed (readerChecks numbers bytes p)
   pub size : (first : List ℕ) → replySize first ≡ sizeBy (length first) (twoAt first 5)
+  -- with the weekday that C is told a date write of the day is taken, and with no other; 7 is told where there is no such day
+  pub weekday : (yy mm dd ww hh mn : ℕ)
+      → isTaken (encodeDateWrite yy mm dd ww hh mn 0) ≡ (leb ww 6 && eqb ww (weekdayFor yy mm dd) && leb hh 23 && leb mn 59)
+  pub no-day : (yy mm dd : ℕ) → (leb yy 99 && (leb 1 mm && leb mm 12) && (leb 1 dd && leb dd (daysIn yy mm))) ≡ false → weekdayFor yy mm dd ≡ 7
   -- no packet needs more than 73 bytes, and one that is read has the length that its first bytes tell
   pub most : (first : List ℕ) → replySize first ≤ 73
   pub framed : (numbers bytes : ℕ) (p : List ℕ) (id : ℕ) (r : Reply) → readInto numbers bytes p ≡ read.reply id r

@@ -1,4 +1,4 @@
--- The encoder for C (docs/RULES.md, 'Station', XC1): what it takes and gives as numbers.
+-- The encoder for C (docs/RULES.md, 'Station', XC1 and XC4): what it takes and gives as numbers.
 use mathlib.Core.Bool.{cond}
 use mathlib.Core.List.{List, _∷_}
 use mathlib.Core.Path.{_≡_}
@@ -9,6 +9,7 @@ use Rattle.messages.specs.Message.{Request}
 use Rattle.messages.specs.Message.ScheduleRequest.{scheduleRead, scheduleWrite, scheduleEnable}
 use Rattle.messages.specs.Message.Request.{getParameter, setParameter, powerRead, powerControl, dateRead, dateWrite, itemRead, tagWrite, schedule}
 use Rattle.messages.specs.declared.message.Item.{Item}
+use Rattle.calendar.specs.Calendar.{isDay, weekdayOf}
 use Rattle.station.specs.Encode.{Encoding, sends, refused, encoding, bufferAs}
 use Rattle.station.specs.declared.encode.Destination.{Destination}
 
@@ -51,6 +52,10 @@ requestFor (encodeScheduleRead program) = schedule (scheduleRead program)
 requestFor (encodeScheduleWrite program on_hour on_minute off_hour off_minute input week flags) =
     schedule (scheduleWrite (program ∷ on_hour ∷ on_minute ∷ off_hour ∷ off_minute ∷ input ∷ week ∷ flags ∷ replicate 8 0))
 requestFor (encodeScheduleEnable program enable) = schedule (scheduleEnable program enable)
+
+-- the weekday that falls on a day, as C is told it: 0 to 6, and 7 where there is no such day
+abbrev pub weekdayFor : (year month day : ℕ) → ℕ
+weekdayFor year month day = cond (isDay year month day) (weekdayOf year month day) 7
 
 -- what a call gives, with so much room in the lent buffer and a destination as a number
 abbrev pub encodingFor : ℕ → ℕ → Call → Encoding

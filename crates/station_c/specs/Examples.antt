@@ -8,18 +8,19 @@ use Rattle.station.specs.Read.{replySize}
 use Rattle.station_c.specs.Encode.{Call, encodeGet, encodeSet, encodePowerRead, encodePowerControl, encodeDateRead, encodeDateWrite}
 use Rattle.station_c.specs.Encode.{encodeSerialRead, encodeModelRead, encodeTagRead, encodeFormerTagRead, encodeTagWrite}
 use Rattle.station_c.specs.Encode.{encodeScheduleRead, encodeScheduleWrite, encodeScheduleEnable}
-use Rattle.station_c.specs.Encode.{encodingFor, EncodesForC}
+use Rattle.station_c.specs.Encode.{weekdayFor, encodingFor, EncodesForC}
 use Rattle.station_c.specs.Read.{readInto, ReadsForC}
 
 -- the encoder, with so much room and a destination: it writes a packet, or refuses
 -- the reader, lent so many numbers and bytes: it tells a kind, numbers and bytes of a packet, or refuses
--- the length that first bytes tell
+-- the length that first bytes tell, and the weekday of a day
 pub data Worked : Type 0 where
   encodes : (room dest : ℕ) → Call → (packet : List ℕ) → Worked
   encodesNot : (room dest : ℕ) → Call → (refusal : ℕ) → Worked
   reads : (numbers bytes : ℕ) → (packet : List ℕ) → (kind : ℕ) → (told item : List ℕ) → Worked
   readsNot : (numbers bytes : ℕ) → (packet : List ℕ) → (refusal : ℕ) → Worked
   sizes : (first : List ℕ) → ℕ → Worked
+  falls : (year month day : ℕ) → ℕ → Worked
 
 -- what is given stands at the start of a lent place, the rest as it was; written out, since the definitions share `over`
 abbrev pub at : List ℕ → List ℕ → List ℕ
@@ -34,6 +35,7 @@ Holds (reads numbers bytes packet kind told item) = (list lent : List ℕ) (coun
 Holds (readsNot numbers bytes packet n) = (list lent : List ℕ) (count : ℕ)
     → ReadsForC (readInto numbers bytes packet) n list list lent lent count count
 Holds (sizes first n) = replySize first ≡ n
+Holds (falls year month day n) = weekdayFor year month day ≡ n
 
 unfoldable pub AllHold : List Worked → Type 0
 AllHold [] = Unit {0}
@@ -70,6 +72,17 @@ worked =
     ∷ 0x30 ∷ 0x30 ∷ 0x30 ∷ 0x30 ∷ 0x30 ∷ 0x30 ∷ 0x30 ∷ 0x30 ∷ 0x30 ∷ 0x30 ∷ 0x30 ∷ 0x03 ∷ 0x72 ∷ 0x0D ∷ [])
     ∷ encodes 64 1 (encodeScheduleEnable 2 0) (0x01 ∷ 0x30 ∷ 0x41 ∷ 0x30 ∷ 0x41 ∷ 0x30 ∷ 0x41 ∷ 0x02 ∷ 0x43 ∷ 0x32 ∷ 0x31 ∷ 0x35 ∷ 0x30 ∷ 0x32 ∷ 0x30
     ∷ 0x30 ∷ 0x03 ∷ 0x07 ∷ 0x0D ∷ [])
+    -- the ends of the calendar: 1 January 2000, 29 February 2000 and 2096, 28 February 2001, 31 December 2099
+    ∷ encodes 64 1 (encodeDateWrite 0 1 1 6 0 0 0) (0x01 ∷ 0x30 ∷ 0x41 ∷ 0x30 ∷ 0x41 ∷ 0x31 ∷ 0x34 ∷ 0x02 ∷ 0x43 ∷ 0x32 ∷ 0x31 ∷ 0x32 ∷ 0x30 ∷ 0x30
+    ∷ 0x30 ∷ 0x31 ∷ 0x30 ∷ 0x31 ∷ 0x30 ∷ 0x36 ∷ 0x30 ∷ 0x30 ∷ 0x30 ∷ 0x30 ∷ 0x30 ∷ 0x30 ∷ 0x03 ∷ 0x70 ∷ 0x0D ∷ [])
+    ∷ encodes 64 1 (encodeDateWrite 0 2 29 2 0 0 0) (0x01 ∷ 0x30 ∷ 0x41 ∷ 0x30 ∷ 0x41 ∷ 0x31 ∷ 0x34 ∷ 0x02 ∷ 0x43 ∷ 0x32 ∷ 0x31 ∷ 0x32 ∷ 0x30 ∷ 0x30
+    ∷ 0x30 ∷ 0x32 ∷ 0x31 ∷ 0x44 ∷ 0x30 ∷ 0x32 ∷ 0x30 ∷ 0x30 ∷ 0x30 ∷ 0x30 ∷ 0x30 ∷ 0x30 ∷ 0x03 ∷ 0x03 ∷ 0x0D ∷ [])
+    ∷ encodes 64 1 (encodeDateWrite 1 2 28 3 0 0 0) (0x01 ∷ 0x30 ∷ 0x41 ∷ 0x30 ∷ 0x41 ∷ 0x31 ∷ 0x34 ∷ 0x02 ∷ 0x43 ∷ 0x32 ∷ 0x31 ∷ 0x32 ∷ 0x30 ∷ 0x31
+    ∷ 0x30 ∷ 0x32 ∷ 0x31 ∷ 0x43 ∷ 0x30 ∷ 0x33 ∷ 0x30 ∷ 0x30 ∷ 0x30 ∷ 0x30 ∷ 0x30 ∷ 0x30 ∷ 0x03 ∷ 0x04 ∷ 0x0D ∷ [])
+    ∷ encodes 64 1 (encodeDateWrite 96 2 29 3 0 0 0) (0x01 ∷ 0x30 ∷ 0x41 ∷ 0x30 ∷ 0x41 ∷ 0x31 ∷ 0x34 ∷ 0x02 ∷ 0x43 ∷ 0x32 ∷ 0x31 ∷ 0x32 ∷ 0x36 ∷ 0x30
+    ∷ 0x30 ∷ 0x32 ∷ 0x31 ∷ 0x44 ∷ 0x30 ∷ 0x33 ∷ 0x30 ∷ 0x30 ∷ 0x30 ∷ 0x30 ∷ 0x30 ∷ 0x30 ∷ 0x03 ∷ 0x04 ∷ 0x0D ∷ [])
+    ∷ encodes 64 1 (encodeDateWrite 99 12 31 4 23 59 0) (0x01 ∷ 0x30 ∷ 0x41 ∷ 0x30 ∷ 0x41 ∷ 0x31 ∷ 0x34 ∷ 0x02 ∷ 0x43 ∷ 0x32 ∷ 0x31 ∷ 0x32 ∷ 0x36
+    ∷ 0x33 ∷ 0x30 ∷ 0x43 ∷ 0x31 ∷ 0x46 ∷ 0x30 ∷ 0x34 ∷ 0x31 ∷ 0x37 ∷ 0x33 ∷ 0x42 ∷ 0x30 ∷ 0x30 ∷ 0x03 ∷ 0x04 ∷ 0x0D ∷ [])
     -- the ends of a schedule's ranges: programs 0 and 6, 24 with 60, 23 with 59, the other inputs, WEEK 7Fh, FL 7, enable 1
     ∷ encodes 64 256 (encodeScheduleRead 6) (0x01 ∷ 0x30 ∷ 0x2A ∷ 0x30 ∷ 0x41 ∷ 0x30 ∷ 0x38 ∷ 0x02 ∷ 0x43 ∷ 0x32 ∷ 0x32 ∷ 0x31 ∷ 0x30 ∷ 0x36 ∷ 0x03
     ∷ 0x16 ∷ 0x0D ∷ [])
@@ -102,6 +115,12 @@ worked =
     ∷ encodesNot 64 256 (encodeDateWrite 26 0 16 1 17 22 0) 21
     ∷ encodesNot 64 256 (encodeDateWrite 26 11 32 1 17 22 0) 21
     ∷ encodesNot 64 256 (encodeDateWrite 26 11 0 1 17 22 0) 21
+    ∷ encodesNot 64 256 (encodeDateWrite 26 11 31 2 17 22 0) 21
+    ∷ encodesNot 64 256 (encodeDateWrite 0 2 30 3 17 22 0) 21
+    ∷ encodesNot 64 256 (encodeDateWrite 1 2 29 4 17 22 0) 21
+    ∷ encodesNot 64 256 (encodeDateWrite 26 11 16 0 17 22 0) 21
+    ∷ encodesNot 64 256 (encodeDateWrite 26 11 16 2 17 22 0) 21
+    ∷ encodesNot 64 256 (encodeDateWrite 26 11 16 8 17 22 0) 21
     ∷ encodesNot 64 256 (encodeDateWrite 26 11 16 7 17 22 0) 21
     ∷ encodesNot 64 256 (encodeDateWrite 26 11 16 1 24 22 0) 21
     ∷ encodesNot 64 256 (encodeDateWrite 26 11 16 1 17 60 0) 21
@@ -318,4 +337,18 @@ worked =
     ∷ sizes (0x00 ∷ 0x00 ∷ 0x00 ∷ 0x00 ∷ 0x00 ∷ 0x31 ∷ 0x41 ∷ []) 35
     ∷ sizes (0x00 ∷ 0x00 ∷ 0x00 ∷ 0x00 ∷ 0x00 ∷ 0x31 ∷ 0x61 ∷ []) 0
     ∷ sizes (0x00 ∷ 0x00 ∷ 0x00 ∷ 0x00 ∷ 0x00 ∷ 0x47 ∷ 0x30 ∷ []) 0
+    -- weekdays, of the ends of the calendar and of 16 November 2026; days that there are not
+    ∷ falls 0 1 1 6
+    ∷ falls 0 2 29 2
+    ∷ falls 1 2 28 3
+    ∷ falls 26 11 16 1
+    ∷ falls 99 12 31 4
+    ∷ falls 0 2 30 7
+    ∷ falls 1 2 29 7
+    ∷ falls 26 4 31 7
+    ∷ falls 26 0 1 7
+    ∷ falls 26 13 1 7
+    ∷ falls 26 1 0 7
+    ∷ falls 26 1 32 7
+    ∷ falls 100 1 1 7
     ∷ []

@@ -4,7 +4,7 @@ ghost use lib.ListN.{length};
 ghost use Rattle.messages.specs.View.{requestOf, requestCount};
 ghost use Rattle.messages.specs.Inner.{Beside};
 ghost use Rattle.station.specs.Encode.{encoding};
-ghost use Rattle.station_c.specs.Encode.{destinationOf, encodeGet, encodeSet, encodePowerRead, encodePowerControl, encodeDateRead, encodeDateWrite, encodeSerialRead, encodeModelRead, encodeTagRead, encodeFormerTagRead, encodeTagWrite, encodeScheduleRead, encodeScheduleWrite, encodeScheduleEnable, encodingFor, EncodesForC};
+ghost use Rattle.station_c.specs.Encode.{destinationOf, encodeGet, encodeSet, encodePowerRead, encodePowerControl, encodeDateRead, encodeDateWrite, encodeSerialRead, encodeModelRead, encodeTagRead, encodeFormerTagRead, encodeTagWrite, encodeScheduleRead, encodeScheduleWrite, encodeScheduleEnable, encodingFor, EncodesForC, weekdayFor};
 ghost use Rattle.station_c.specs.Inner.{TellsOf};
 use messages::message::Date;
 use messages::message::Item;
@@ -92,6 +92,17 @@ pub extern "C" fn station_encode_date_write(
         daylight,
     };
     export(dest, Request::DateWrite(date), b"", out, size)
+}
+
+// The weekday that falls on a day, Sunday 0; 7 where there is no such day.
+#[no_mangle]
+pub extern "C" fn station_weekday(year: u8, month: u8, day: u8) -> u8
+    ensures { λ r. ⌜ r ≡ weekdayFor year month day ⌝ }
+{
+    if !calendar::is_day(year, month, day) {
+        return 7;
+    }
+    calendar::weekday_of(year, month, day)
 }
 
 #[no_mangle]

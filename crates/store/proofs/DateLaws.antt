@@ -5,9 +5,9 @@ use mathlib.Core.Logic.{_⊎_, inl, inr, ⊎-elim}
 use mathlib.Core.List.{List}
 use Prim.Native.Nat.{ℕ, _+_, _*_, _≤_, _<_}
 use native.Mathlib.Omega.{arith}
-use lib.Dec.{leb, eqb}
+use lib.Dec.{leb}
 use lib.ListN.{length, getD}
-use borrow.Author.Tests.{leb-true, eqb-true}
+use borrow.Author.Tests.{leb-true}
 use Rattle.bitfield.specs.Field.{getField, Apart}
 use Rattle.bitfield.proofs.Laws.{get-put-other, byte-put, length-put}
 use Rattle.messages.specs.declared.message.Date.{Date}
@@ -16,7 +16,7 @@ use Rattle.plan.specs.Inner.{Within}
 use Rattle.store.specs.Fields.{Field, read, write, fits}
 use Rattle.store.specs.Layout.{dateFields, year, month, day, weekday, hour, minute, fieldsInRange}
 use Rattle.store.specs.Inner.{DateFits}
-use Rattle.store.specs.Contents.{dateOf, isStorable, isAccepted, withDate, dateStores}
+use Rattle.store.specs.Contents.{dateOf, isStorable, withDate, dateStores}
 use Rattle.wire.proofs.Tests.{both}
 use Rattle.store.proofs.StoreLaws.{isSame, isAmong, isField, each-one, fits-below, read-write-any, in-range-write}
 use Rattle.store.proofs.StoreLaws.{RestKept, around-length, around-within, around-applied}
@@ -166,19 +166,17 @@ date-shown m d l s =
       daylight = 0;
     }
 
-pub accepted-shown : (m : List ℕ) (d : Date) → 12 ≤ length m → isAccepted d ≡ true → dateOf (withDate m d) ≡ d
-unfolding isAccepted
-accepted-shown m d l a =
-    let b = both (isStorable d) (eqb (d .daylight) 0) a in
-    let z : 0 ≡ d .daylight = sym (eqb-true (d .daylight) 0 (b .1)) in
-    date-shown m d l (b .0) ∙ (λ i. record {
+-- and with DS 0 it is the date that was written
+pub standard-shown : (m : List ℕ) (d : Date) → 12 ≤ length m → isStorable d ≡ true → d .daylight ≡ 0 → dateOf (withDate m d) ≡ d
+standard-shown m d l s z =
+    date-shown m d l s ∙ (λ i. record {
       year = d .year;
       month = d .month;
       day = d .day;
       weekday = d .weekday;
       hour = d .hour;
       minute = d .minute;
-      daylight = z i;
+      daylight = sym z i;
     })
 
 -- ---- what a date write stores

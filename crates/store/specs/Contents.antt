@@ -1,4 +1,4 @@
--- Power, date and tags in the store (docs/RULES.md, 'What a good packet does', AC6, AC7 and AC9, and 'Store'): what is read, what is accepted,
+-- Power, date and tags in the store (docs/RULES.md, 'What a good packet does', AC6, AC7 and AC9, and 'Store'): what is read, what may be stored,
 -- what is stored.
 use mathlib.Core.Bool.{Bool, _&&_}
 use mathlib.Core.List.{List, _++_}
@@ -36,15 +36,11 @@ dateOf m =
       daylight = 0;
     }
 
--- a date that may be stored: YY 0..99, MM 1..12, DD 1..31, WW 0..6, HH 0..23, MN 0..59
+-- a date that may be stored: YY 0..99, MM 1..12, DD 1..31, WW 0..6, HH 0..23, MN 0..59; the calendar says which of these a date write accepts
 unfoldable pub isStorable : Date → Bool
 isStorable d =
     fits year (d .year) && fits month (d .month) && fits day (d .day)
     && fits weekday (d .weekday) && fits hour (d .hour) && fits minute (d .minute)
-
--- a date that a date write accepts: one that may be stored, and DS 0
-unfoldable pub isAccepted : Date → Bool
-isAccepted d = isStorable d && eqb (d .daylight) 0
 
 unfoldable pub withDate : List ℕ → Date → List ℕ
 withDate m d =

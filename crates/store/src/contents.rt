@@ -5,10 +5,10 @@ ghost use Prim.Native.Nat.{_+_, _^_, _≤_, _<_};
 ghost use lib.ListN.{length, take, drop};
 ghost use Rattle.bitfield.specs.Field.{getField, putField};
 ghost use Rattle.plan.specs.Plans.{storesOf};
-ghost use Rattle.store.specs.Fields.{fieldStores, read, fitsIn};
+ghost use Rattle.store.specs.Fields.{fieldStores, read};
 ghost use Rattle.store.specs.Layout.{power, tagLength, formerLength};
 ghost use Rattle.store.specs.Inner.{InStore, InHead, DateFits};
-ghost use Rattle.store.specs.Contents.{isOn, dateOf, isStorable, isAccepted, withDate, dateStores, tagOf, formerTagOf, withLengths, tagStores, itemBytes};
+ghost use Rattle.store.specs.Contents.{isOn, dateOf, isStorable, withDate, dateStores, tagOf, formerTagOf, withLengths, tagStores, itemBytes};
 ghost use Rattle.wire.specs.Digits.{padded};
 use crate::fields;
 use messages::message::Date;
@@ -57,34 +57,7 @@ pub fn date_of(store: &[u8]) -> Date
     }
 }
 
-// Whether a date may be stored.
-pub fn is_storable(date: Date) -> bool
-    ensures { λ r. ⌜ r ≡ isStorable date ⌝ }
-{
-    let year = from_to(0, 99, date.year);
-    let month = from_to(1, 12, date.month);
-    let day = from_to(1, 31, date.day);
-    let weekday = from_to(0, 6, date.weekday);
-    let hour = from_to(0, 23, date.hour);
-    let minute = from_to(0, 59, date.minute);
-    year & month & day & weekday & hour & minute
-}
-
-fn from_to(least: u8, most: u8, v: u8) -> bool
-    ensures { λ r. ⌜ r ≡ fitsIn least most v ⌝ }
-{
-    (least <= v) & (v <= most)
-}
-
-// Whether a date write takes a date.
-pub fn is_accepted(date: Date) -> bool
-    ensures { λ r. ⌜ r ≡ isAccepted date ⌝ }
-{
-    let daylight = date.daylight;
-    is_storable(date) & (daylight == 0)
-}
-
-// What an accepted date stores.
+// What a date write stores.
 pub fn date_stores(store: &[u8], date: Date) -> Plan
     requires { ⌜ length (now store) ≡ 128 ⌝ }
     requires { ⌜ isStorable date ≡ true ⌝ }

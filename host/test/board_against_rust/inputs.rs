@@ -1,6 +1,7 @@
 // Inputs from fixed seeds: identities, stores, and packets whole, near and damaged.
 use crate::plain::{
-    address, check_code, put, put_program, ALL, ERASING, FIELDS, MARK, OLD, PROGRAMS, PROGRAMS_END, PROGRAM_PLACE, STORE, UNUSED,
+    address, check_code, put, put_program, weekday_of, ALL, ERASING, FIELDS, MARK, OLD, PROGRAMS, PROGRAMS_END, PROGRAM_PLACE,
+    STORE, UNUSED,
 };
 
 // The splitmix64 generator.
@@ -247,17 +248,21 @@ fn mode(random: &mut Random) -> u16 {
     }
 }
 
-// Mostly within the ranges, at their edges more often than elsewhere; now and then one field outside.
+// Mostly within the ranges, at their edges more often than elsewhere, and with the day's own weekday; now and then one field outside.
 fn date(random: &mut Random) -> [u8; 7] {
     let ranges = [(0, 99), (1, 12), (1, 31), (0, 6), (0, 23), (0, 59), (0, 0)];
-    ranges.map(|(first, last)| match random.below(60) {
+    let mut date = ranges.map(|(first, last)| match random.below(60) {
         0 => random.byte(),
         1 => last as u8 + 1,
         2 => (first as u8).wrapping_sub(1),
         3..=10 => first as u8,
         11..=18 => last as u8,
         _ => random.from_to(first, last) as u8,
-    })
+    });
+    if !random.one_in(10) {
+        date[3] = weekday_of(date[0], date[1], date[2]).unwrap_or(date[3]);
+    }
+    date
 }
 
 fn tag(random: &mut Random) -> String {

@@ -1,5 +1,5 @@
-// The board in plain Rust, written from document 01 ('Packet' to 'Erase') and document 02 (schedules) by itself. It needs
-// no standard library.
+// The board in plain Rust, written from document 01 ('Packet' to 'Erase') and document 02 (schedules, days) by itself. It
+// needs no standard library.
 
 pub const STORE: usize = 128;
 pub const ROOM: usize = 64;
@@ -155,6 +155,28 @@ fn in_range(store: &[u8]) -> bool {
         good(BACKLIGHT) & good(INPUT) & good(BALANCE) & good(PIP_H) & good(PIP_V) & good(AMBIENT_LOW) & good(AMBIENT_HIGH);
     let date = good(DATE[0]) & good(DATE[1]) & good(DATE[2]) & good(DATE[3]) & good(DATE[4]) & good(DATE[5]);
     settings & good(TILE) & date & good(TAG) & good(FORMER)
+}
+
+// ---- the calendar
+
+fn days_in(year: u8, month: u8) -> u8 {
+    match month {
+        2 => 28 + u8::from(year % 4 == 0),
+        4 | 6 | 9 | 11 => 30,
+        1..=12 => 31,
+        _ => 0,
+    }
+}
+
+// The weekday that falls on a day of 2000 to 2099, Sunday 0, counted from Saturday 1 January 2000.
+pub fn weekday_of(year: u8, month: u8, day: u8) -> Option<u8> {
+    if year > 99 || !(1..=days_in(year, month)).contains(&day) {
+        return None;
+    }
+    let days_of = |year| (1..=12).map(|month| u32::from(days_in(year, month))).sum::<u32>();
+    let years: u32 = (0..year).map(days_of).sum();
+    let months: u32 = (1..month).map(|month| u32::from(days_in(year, month))).sum();
+    Some(((6 + years + months + u32::from(day - 1)) % 7) as u8)
 }
 
 // ---- the programs
@@ -553,7 +575,8 @@ impl Board {
         if count != 7 {
             return None;
         }
-        let is_good = date[6] == 0 && DATE.iter().zip(date).all(|(field, value)| (field.2..=field.3).contains(&value));
+        let falls = weekday_of(date[0], date[1], date[2]) == Some(date[3]);
+        let is_good = falls && date[4] <= 23 && date[5] <= 59 && date[6] == 0;
         if is_good {
             DATE.iter().zip(date).for_each(|(&field, value)| put(store, field, value));
         }

@@ -1,5 +1,5 @@
 // Inputs from a fixed seed: requests in and out of range, replies whole, near and damaged.
-use crate::plain::{hex, mend_check_code, mend_length, packet, Request, ALL};
+use crate::plain::{hex, mend_check_code, mend_length, packet, weekday_of, Request, ALL};
 
 // The splitmix64 generator.
 pub struct Random(pub u64);
@@ -64,17 +64,21 @@ fn mode(random: &mut Random) -> u16 {
     }
 }
 
-// Mostly within the ranges, at their edges more often than elsewhere; now and then one field outside.
+// Mostly within the ranges, at their edges more often than elsewhere, and with the day's own weekday; now and then one field outside.
 fn date(random: &mut Random) -> [u8; 7] {
     let ranges = [(0, 99), (1, 12), (1, 31), (0, 6), (0, 23), (0, 59), (0, 0)];
-    ranges.map(|(first, last)| match random.below(40) {
+    let mut date = ranges.map(|(first, last)| match random.below(40) {
         0 => random.byte(),
         1 => last as u8 + 1,
         2 => (first as u8).wrapping_sub(1),
         3..=8 => first as u8,
         9..=14 => last as u8,
         _ => random.from_to(first, last) as u8,
-    })
+    });
+    if !random.one_in(10) {
+        date[3] = weekday_of(date[0], date[1], date[2]).unwrap_or(date[3]);
+    }
+    date
 }
 
 fn tag(random: &mut Random) -> Vec<u8> {

@@ -20,6 +20,7 @@ extern "C" {
         out_len: usize,
         size: *mut usize,
     ) -> u8;
+    fn station_weekday(year: u8, month: u8, day: u8) -> u8;
     fn station_encode_serial_read(dest: u16, out: *mut u8, out_len: usize, size: *mut usize) -> u8;
     fn station_encode_model_read(dest: u16, out: *mut u8, out_len: usize, size: *mut usize) -> u8;
     fn station_encode_tag_read(dest: u16, out: *mut u8, out_len: usize, size: *mut usize) -> u8;
@@ -54,6 +55,10 @@ extern "C" {
 }
 
 // The length that first bytes tell.
+pub fn weekday(year: u8, month: u8, day: u8) -> u8 {
+    unsafe { station_weekday(year, month, day) }
+}
+
 pub fn reply_size(first: &[u8]) -> usize {
     unsafe { station_reply_size(first.as_ptr(), first.len()) }
 }

@@ -1,4 +1,5 @@
-// Compares the proved encoder, reader and reply size, called over C, with the plain ones of plain.rs: every result and every byte lent.
+// Compares the proved encoder, reader, reply size and weekday, called over C, with the plain ones of plain.rs: every result and every
+// byte lent.
 mod inputs;
 mod library;
 mod plain;
@@ -84,7 +85,7 @@ impl Comparison {
         }
     }
 
-    // Every mode, every value of each date field in a good date, every tag length to 300; and every value of programs.
+    // Every mode, every value of each date field in a good date, every day, every tag length to 300; and every value of programs.
     fn values(&mut self) {
         (0..=u16::MAX).for_each(|mode| self.request(1, &Request::PowerControl { mode }, 64));
         for (field, value) in (0..7).flat_map(|field| (0..=255).map(move |value| (field, value))) {
@@ -92,11 +93,26 @@ impl Comparison {
             date[field] = value;
             self.request(1, &Request::DateWrite { date }, 64);
         }
+        self.days();
         for count in 0..=300 {
             let tag = self.random.bytes(count);
             self.request(1, &Request::TagWrite { tag }, 64);
         }
         self.programs();
+    }
+
+    // Every day of the century and around it, with its weekday and with any.
+    fn days(&mut self) {
+        let days = (0..=100).flat_map(|year| (0..=13).flat_map(move |month| (0..=32).map(move |day| (year, month, day))));
+        for (year, month, day) in days {
+            let (plain, proved) = (plain::weekday_of(year, month, day).unwrap_or(7), library::weekday(year, month, day));
+            if plain != proved {
+                differ(&format!("weekday of {year}-{month}-{day}"), &plain, &proved);
+            }
+            for weekday in [plain, self.random.below(8) as u8] {
+                self.request(1, &Request::DateWrite { date: [year, month, day, weekday, 0, 0, 0] }, 64);
+            }
+        }
     }
 
     // Every hour with every minute, every other number of a program that is good, every program and every enable.

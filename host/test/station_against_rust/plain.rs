@@ -1,5 +1,7 @@
 // Encoder and reader in plain Rust, written from document 01 ('Packet', 'What a good packet does', 'Station') and document 02
-// (schedules) by itself.
+// (schedules, days) by itself.
+
+use std::sync::OnceLock;
 
 pub const ALL: u16 = 256;
 
@@ -73,9 +75,31 @@ fn address(dest: u16) -> Option<u8> {
     }
 }
 
-fn date_is_good(date: &[u8; 7]) -> bool {
-    let ranges = [0..=99, 1..=12, 1..=31, 0..=6, 0..=23, 0..=59, 0..=0];
-    ranges.iter().zip(date).all(|(range, field)| range.contains(field))
+// Year, month, day and weekday of each day from Saturday 1 January 2000 to the last of 2099, one after another.
+fn century() -> Vec<[u8; 4]> {
+    let mut days = Vec::new();
+    for year in 0..100 {
+        let february = if year % 4 == 0 { 29 } else { 28 };
+        for (month, count) in (1..).zip([31, february, 31, 30, 31, 30, 31, 31, 30, 31, 30, 31]) {
+            for day in 1..=count {
+                let weekday = days.last().map_or(6, |before: &[u8; 4]| (before[3] + 1) % 7);
+                days.push([year, month, day, weekday]);
+            }
+        }
+    }
+    days
+}
+
+// The weekday that falls on a day that there is.
+pub fn weekday_of(year: u8, month: u8, day: u8) -> Option<u8> {
+    static DAYS: OnceLock<Vec<[u8; 4]>> = OnceLock::new();
+    let days = DAYS.get_or_init(century);
+    let found = days.binary_search_by_key(&[year, month, day], |&[year, month, day, _]| [year, month, day]);
+    found.ok().map(|place| days[place][3])
+}
+
+fn date_is_good(&[year, month, day, weekday, hour, minute, daylight]: &[u8; 7]) -> bool {
+    weekday_of(year, month, day) == Some(weekday) && hour <= 23 && minute <= 59 && daylight == 0
 }
 
 // A time of day, or 24 and 60 together, which mean that there is none.

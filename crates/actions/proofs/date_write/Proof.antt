@@ -4,7 +4,6 @@ use mathlib.Core.Bool.{Bool, true, false, not}
 use mathlib.Core.List.{List, []}
 use mathlib.Core.Path.{_≡_, sym, _∙_}
 use Prim.Native.Nat.{ℕ}
-use lib.Dec.{eqb}
 use borrow.Author.Tests.{not-true, not-false}
 use Rattle.plan.specs.Stores.{Entry}
 use Rattle.messages.specs.View.{replyOf}
@@ -12,19 +11,18 @@ use Rattle.messages.specs.declared.message.Date.{Date}
 use Rattle.messages.specs.declared.message.DateAnswer.{DateAnswer}
 use Rattle.messages.specs.declared.message.Reply.{Reply}
 use Rattle.messages.specs.declared.message.Status.{Status}
-use Rattle.store.specs.Contents.{isStorable, isAccepted, dateStores}
-use Rattle.wire.proofs.Tests.{both}
+use Rattle.calendar.specs.Calendar.{isAccepted}
+use Rattle.store.specs.Contents.{isStorable, dateStores}
 use Rattle.actions.specs.Act.{says, replies, dateWriteEffect}
 use Rattle.actions.specs.Inner.{Decides}
 use Rattle.actions.specs.declared.Decision.{Decision}
-use Rattle.actions.proofs.Laws.{decides-as}
+use Rattle.actions.proofs.Laws.{accepted-storable, decides-as}
 use Rattle.actions.proofs.date_write.Statement.{statement}
 use Rattle.actions.proofs.date_write.Tie as tie
 
 module _ (t : Date) {a : Bool} (test : a ≡ isAccepted t) where
   storable : not a ≡ false → isStorable t ≡ true
-  unfolding isAccepted
-  storable n = both (isStorable t) (eqb (t .daylight) 0) (sym test ∙ not-false a n) .0
+  storable n = accepted-storable t (sym test ∙ not-false a n)
 
   module _ (m : List ℕ) {d : Decision} where
     refused : Decides d (says (replyOf (Reply.Date (DateAnswer.Written Status.Refused t)) [])) → not a ≡ true → Decides d (dateWriteEffect m t)
