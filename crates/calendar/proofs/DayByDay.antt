@@ -160,6 +160,7 @@ day-by-day =
       new-year = refl;
       last-day = refl;
       accepted-in-days = accepted-in-days;
+      accepted-times = λ d e. let a = accepted d e in (a .hour, a .minute, a .daylight);
       in-days-accepted = in-days-accepted;
       next-accepted = next-accepted;
       counted = λ n h. met-number n (daysOn n firstDay) (met n h);

@@ -63,8 +63,9 @@ pub record DayByDay : Type 0 where
   pub no-leap-day : nextDay (at 1 2 28 3 0 1) ≡ midnight 1 3 1 4
   pub new-year : nextDay (at 0 12 31 0 23 59) ≡ midnight 1 1 1 1
   pub last-day : nextDay (at 99 12 31 4 23 59) ≡ midnight 0 1 1 6
-  -- the accepted dates are on these days, with their weekdays; on each of the days every time is accepted, and the day after is one of them
+  -- the accepted dates are the times of these days, HH 0..23, MN 0..59, DS 0, with their weekdays; the day after one of them is one of them
   pub accepted-in-days : (d : Date) → isAccepted d ≡ true → InDays d
+  pub accepted-times : (d : Date) → isAccepted d ≡ true → (d .hour ≤ 23) × (d .minute ≤ 59) × (d .daylight ≡ 0)
   pub in-days-accepted : (d : Date) → InDays d → d .hour ≤ 23 → d .minute ≤ 59 → d .daylight ≡ 0 → isAccepted d ≡ true
   pub next-accepted : (d : Date) → isAccepted d ≡ true → isAccepted (nextDay d) ≡ true
   -- each day is counted by the days before it, none comes twice, and after the last comes the first

@@ -16,7 +16,7 @@ pub fn is_accepted(date: Date) -> bool
     (date.weekday == weekday) & (date.hour <= 23) & (date.minute <= 59) & (date.daylight == 0)
 }
 
-// Whether a month has a day.
+// Whether there is such a day from 2000 to 2099.
 pub fn is_day(year: u8, month: u8, day: u8) -> bool
     ensures { λ r. ⌜ r ≡ isDay year month day ⌝ }
 {
