@@ -1,6 +1,6 @@
 -- Every refusal of the encoder and of the reader for C, the weekday of a day and the length that first bytes tell (docs/RULES.md, 'Station', EN1, RD1, XC1,
--- XC2 and XC4), their numbers written out; digits, the exclusive or, the replies' texts and the calendar are those of their crates. A call is refused with the number of the
--- first check that fails, and goes on where none does.
+-- XC2 and XC4), their numbers written out; digits, the exclusive or, the replies' texts, the days of a month and the weekday of a day are those of `wire`,
+-- `messages` and `calendar`. A call is refused with the number of the first check that fails, and goes on where none does.
 use mathlib.Core.Bool.{Bool, true, false, cond, not, _&&_, _||_}
 use mathlib.Core.List.{List, [], _∷_}
 use mathlib.Core.Option.{Option, none, some}
