@@ -8,8 +8,7 @@ use wire::packet;
 // All of them.
 pub fn all() {
     februaries();
-    early_months();
-    late_months();
+    months();
     weekdays();
     stored();
 }
@@ -24,8 +23,8 @@ fn februaries() {
     write(96, 2, 30, 4);
 }
 
-// The 30th and the 31st of January to June 2001, with the weekdays that follow on that of the day before.
-fn early_months() {
+// The 30th and the 31st of each month of 2001, with the weekdays that follow on that of the day before.
+fn months() {
     write(1, 1, 30, 2);
     write(1, 1, 31, 3);
     write(1, 2, 30, 5);
@@ -38,10 +37,6 @@ fn early_months() {
     write(1, 5, 31, 4);
     write(1, 6, 30, 6);
     write(1, 6, 31, 0);
-}
-
-// And of July to December.
-fn late_months() {
     write(1, 7, 30, 1);
     write(1, 7, 31, 2);
     write(1, 8, 30, 4);
