@@ -1,10 +1,10 @@
 /*
  * The control board as C functions on numbers and bytes: start, byte, gap, erase step, and the bytes of an unused store.
  *
- * Document 01 ('How bytes become a packet', 'What a good packet does', 'Store', 'Erase') decides what they do, and the names here
- * are its names. Each function is proved to do so for every input, and a board whose accepted erase has run to its end, whatever
- * bytes, gaps and power cuts came between, is proved to be as one that was never used. The firmware that calls them is checked by
- * nothing, so the caller has to keep this:
+ * Document 01 ('How bytes become a packet', 'What a good packet does', 'Store', 'Erase') and document 02, which amends it, decide
+ * what they do, and the names here are their names. Each function is proved to do so for every input, and a board whose accepted
+ * erase has run to its end, whatever bytes, gaps and power cuts came between, is proved to be as one that was never used. The
+ * firmware that calls them is checked by nothing, so the caller has to keep this:
  *
  * - Behind each pointer stand as many bytes as the length after it says; behind `size` and `refusal` stands one element.
  * - The buffers and places of one call do not overlap.
@@ -102,7 +102,8 @@ uint8_t board_start(uint8_t id, const uint8_t *serial, size_t serial_len, const 
                     size_t store_len, uint8_t *state, size_t state_len);
 
 /*
- * Gives the board one byte from the line.
+ * Gives the board one byte from the line. The digits of a packet may come in either case, its type and its name in capitals; the
+ * digits of a reply are in capitals.
  *
  *   state, state_len    the state that the last call left
  *   store, store_len    the store that the last call left

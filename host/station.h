@@ -79,7 +79,7 @@ enum station_reply {
  * said below. The result is the first of these that fits, and then nothing is written.
  *
  * Else the result is 0, the packet stands in the first bytes of `out`, its length in `size`, and the rest of `out` is as it was.
- * No packet is longer than 47 bytes.
+ * No packet is longer than 47 bytes. Its digits and its name are in capitals.
  */
 
 /* Asks for a setting. Any page and code. */
@@ -147,7 +147,7 @@ uint8_t station_encode_schedule_enable(uint16_t dest, uint8_t program, uint8_t e
 
 /*
  * Where a reply ends: how many bytes a packet has whose first bytes these are, 13 to STATION_REPLY_MOST. It is L + 9
- * for the length digits L, first[5] and first[6]; a CR, 03h or 01h before the end is a byte like others, for a check code may be one.
+ * for the length digits L in either case, first[5] and first[6]; a CR, 03h or 01h before the end is a byte like others, for a check code may be one.
  *
  * 0 while there are fewer than STATION_HEADER_BYTES, and from then on where the length digits are bad or outside 4 to 64: nothing
  * tells then where the packet ends. No other byte is looked at, so a packet that is no reply has its length too.
@@ -155,7 +155,8 @@ uint8_t station_encode_schedule_enable(uint16_t dest, uint8_t program, uint8_t e
 size_t station_reply_size(const uint8_t *first, size_t first_len);
 
 /*
- * The reader: takes one whole packet apart, with nothing around it; station_reply_size tells where it ends.
+ * The reader: takes one whole packet apart, with nothing around it; station_reply_size tells where it ends. Its digits may be in
+ * either case, its type and its name are in capitals.
  *
  *   packet, packet_len      the packet
  *   numbers, numbers_len    the place for the reply's numbers, of at least STATION_NUMBERS_ROOM

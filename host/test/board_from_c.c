@@ -14,6 +14,7 @@
 #include "board.h"
 #include "calendar.h"
 
+#include <ctype.h>
 #include <signal.h>
 #include <stdarg.h>
 #include <stdio.h>
@@ -662,7 +663,8 @@ static const struct {
     {'C', "FFFF", 'D', "01FFFF0000000000"},
     {'C', "001", 'B', "BE"},
     {'C', "00100", 'B', "BE"},
-    {'C', "001a", 'B', "BE"},
+    {'C', "001a", 'D', "01001A0000000000"},
+    {'C', "001g", 'B', "BE"},
     {'E', "001100FF", 'F', "01001100000000FF"},
     {'E', "C2110001", 'F', "01C2110000000001"},
     {'E', "0010", 'B', "BE"},
@@ -686,7 +688,7 @@ static const struct {
     {'A', "F013", 'B', "BE"},
     {'A', "F0114", 'B', "BE"},
     {'A', "F011 1", 'B', "BE"},
-    {'A', "F01141a1", 'B', "BE"},
+    {'A', "F01141g1", 'B', "BE"},
     {'A', "BE", 'B', "BE"},
     {'A', "0010", 'B', "BE"},
     {'A', "00100032", 'B', "BE"},
@@ -697,14 +699,14 @@ static const struct {
     {'A', "C2210", 'B', "BE"},
     {'A', "C22100 ", 'B', "BE"},
     {'A', "C2210000", 'B', "BE"},
-    {'A', "C2210a", 'B', "BE"},
+    {'A', "C2210g", 'B', "BE"},
     {'C', "C221", 'D', "01C2210000000000"},
     {'A', "C22207183C183C0000000000000000000000", 'B', "C3220107183C183C0000000000000000000000"},
     {'A', "C222", 'B', "BE"},
     {'A', "C22200183C183C00000000000000000000", 'B', "BE"},
     {'A', "C22200183C183C000000000000000000000", 'B', "BE"},
     {'A', "C22200183C183C000000000000000000000000", 'B', "BE"},
-    {'A', "C22200183c183C0000000000000000000000", 'B', "BE"},
+    {'A', "C22200183g183C0000000000000000000000", 'B', "BE"},
     {'A', "C2150701", 'B', "C315010701"},
     {'A', "C2150002", 'B', "C315010002"},
     {'A', "C215", 'B', "BE"},
@@ -1220,12 +1222,14 @@ static void test_no_start(void)
     EXCHANGE('A', "F013", 'B', null_text);
 }
 
-/* What a digit stands for; -1 where the byte is none. */
+/* What a digit stands for, in either case; -1 where the byte is none. */
 static int digit_value(uint8_t b)
 {
-    static const char digits[] = "0123456789ABCDEF";
-    const char *found = b ? strchr(digits, b) : NULL;
+    static const char digits[] = "0123456789ABCDEF", small[] = "abcdef";
+    const char *found = b ? strchr(digits, b) : NULL, *letter = b ? strchr(small, b) : NULL;
 
+    if (letter)
+        return 10 + (int)(letter - small);
     return found ? (int)(found - digits) : -1;
 }
 
@@ -1297,7 +1301,82 @@ static void try_bad_digits(int type, const char *text)
     }
 }
 
-/* Sixteen bytes are digits in each place of a value. With any other byte a text is nothing known: names consist of digits too. */
+/* Gives a packet, with its own check code, to a board that starts on a store: its reply, and the store it leaves. */
+static void try_spelling(struct packet p, const uint8_t *before, struct packet reply, const uint8_t *after)
+{
+    memcpy(expected, before, sizeof expected);
+    START(1);
+    mend_check_code(&p);
+    GIVE(p);
+    memcpy(expected, after, sizeof expected);
+    check_reply(__LINE__, reply);
+}
+
+/* Every spelling of the digits of a request, its length's among them; then each letter of its name in small. */
+static void try_spellings(int type, const char *text, size_t name)
+{
+    const struct packet capitals = request_to('A', type, text);
+    struct packet reply = {.size = 0};
+    uint8_t before[BOARD_STORE_SIZE], after[BOARD_STORE_SIZE];
+    size_t letters[2 * 16 + 2], count = 0;
+
+    start_used(1);
+    memcpy(before, expected, sizeof before);
+    CHECK(GIVE(capitals) == BOARD_REPLY, "%s: no reply", text);
+    memcpy(reply.bytes, board.reply, board.size);
+    reply.size = board.size;
+    CHECK(reply.size > packet_of('0', 'A', 'B', null_text).size, "%s: nothing known", text);
+    memcpy(after, board.store, sizeof after);
+    for (size_t place = 5; place < capitals.size - 3; place++) {
+        if (capitals.bytes[place] >= 'A' && capitals.bytes[place] <= 'F' && (place < 7 || place >= 8 + name))
+            letters[count++] = place;
+    }
+    CHECK(count <= 13, "%s: %zu letters", text, count);
+    for (size_t mask = 0; mask < (size_t)1 << count && count <= 13; mask++) {
+        struct packet p = capitals;
+
+        for (size_t i = 0; i < count; i++)
+            p.bytes[letters[i]] += mask >> i & 1 ? 'a' - 'A' : 0;
+        try_spelling(p, before, reply, after);
+    }
+    for (size_t place = 8; place < 8 + name; place++) {
+        struct packet p = capitals;
+
+        p.bytes[place] = (uint8_t)tolower(p.bytes[place]);
+        if (p.bytes[place] != capitals.bytes[place])
+            try_spelling(p, before, packet_of('0', 'A', 'B', null_text), before);
+    }
+}
+
+/* Digits in small letters do what those in capitals do; a name in small letters is nothing known. */
+static void test_spellings(void)
+{
+    try_spellings('C', "104A", 0);
+    try_spellings('C', "C211", 0);
+    try_spellings('E', "0010004B", 0);
+    try_spellings('E', "ABCDEFAB", 0);
+    try_spellings('A', "01D6", 4);
+    try_spellings('A', "C203D60001", 6);
+    try_spellings('A', "C203D6ABCD", 6);
+    try_spellings('A', "C211", 4);
+    try_spellings('A', "C2121A0B1506112A00", 4);
+    try_spellings('A', "C216", 4);
+    try_spellings('A', "C217", 4);
+    try_spellings('A', "F010", 4);
+    try_spellings('A', "F012", 4);
+    try_spellings('A', "F011AABBCCDDEEFF", 4);
+    try_spellings('A', "C22101", 4);
+    try_spellings('A', "C222020700171E111F060000000000000000", 4);
+    try_spellings('A', "C215020A", 4);
+    start_unused(1);
+    put_field(expected, BACKLIGHT, 75);
+    EXCHANGE('E', "0010004b", 'F', "000010000064004B");
+    expected[0] = ERASE_MARK;
+    EXPECT(GIVE(request_to('A', 'E', "f0010001")), BOARD_BEGUN);
+    FINISH_ERASE(1, 1);
+}
+
+/* Twenty-two bytes are digits in each place of a value. With another byte a text is nothing known: names consist of digits too. */
 static void test_digits(void)
 {
     static const struct {
@@ -1322,8 +1401,14 @@ static void test_digits(void)
     for (size_t i = 0; i < COUNT(requests); i++)
         try_bad_digits(requests[i].type, requests[i].text);
     for (unsigned place = 0; place < 4; place++) {
-        for (unsigned value = 0; value < 16; value++)
+        for (unsigned value = 0; value < 16; value++) {
+            char small[9], capital[17];
+
             try_set(&settings[0], value << 4 * place, 1);
+            snprintf(small, sizeof small, "ffff%04x", value << 4 * place);
+            snprintf(capital, sizeof capital, "01FFFF000000%04X", value << 4 * place);
+            EXCHANGE('E', small, 'F', capital);
+        }
     }
 }
 
@@ -1925,6 +2010,7 @@ static void test_packets(void)
     RUN(test_no_start);
     RUN(test_headers);
     RUN(test_digits);
+    RUN(test_spellings);
     RUN(test_lengths);
     RUN(test_faulty_packets);
     RUN(test_destinations);

@@ -552,14 +552,15 @@ static void plan_fields(enum kind kind, const uint8_t *changed, int first, int l
     plan_range(kind, from, changed + from, behind - from);
 }
 
-/* The number that capital hexadecimal digits tell, or -1. */
+/* The number that hexadecimal digits tell, in either case, or -1. */
 static long number(const uint8_t *digits, size_t n)
 {
     static const char all[] = "0123456789ABCDEF";
     long value = 0;
 
     for (size_t i = 0; i < n; i++) {
-        const char *digit = digits[i] == '\0' ? NULL : strchr(all, digits[i]);
+        int capital = digits[i] >= 'a' && digits[i] <= 'f' ? digits[i] - 'a' + 'A' : digits[i];
+        const char *digit = capital == '\0' ? NULL : strchr(all, capital);
 
         if (digit == NULL)
             return -1;

@@ -10,6 +10,7 @@
 #include "calendar.h"
 #include "station.h"
 
+#include <ctype.h>
 #include <signal.h>
 #include <stdarg.h>
 #include <stdbool.h>
@@ -762,7 +763,7 @@ static void test_sizes_by_digits(void)
 
     for (unsigned pair = 0; pair < 0x10000; pair++) {
         char digits[3] = {(char)(pair >> 8), (char)pair, '\0'};
-        bool good = strspn(digits, "0123456789ABCDEF") == 2;
+        bool good = strspn(digits, "0123456789ABCDEFabcdef") == 2;
         unsigned long l = good ? strtoul(digits, NULL, 16) : 0;
         size_t told;
 
@@ -786,8 +787,8 @@ static void test_cut_packets(void)
     }
 }
 
-/* The refusal of a good packet in which one byte was changed follows from the byte's place. */
-static int refusal_of_change(size_t place, uint8_t to, size_t size)
+/* The refusal of a packet with one byte changed follows from the place. A length digit in the other case keeps the length. */
+static int refusal_of_change(size_t place, uint8_t from, uint8_t to, size_t size)
 {
     if (place < 3)
         return STATION_REFUSED_REPLY_HEADER;
@@ -796,7 +797,7 @@ static int refusal_of_change(size_t place, uint8_t to, size_t size)
     if (place == 4)
         return to == 'B' || to == 'D' || to == 'F' ? STATION_REFUSED_REPLY_CHECK_CODE : STATION_REFUSED_REPLY_HEADER;
     if (place < 7)
-        return STATION_REFUSED_REPLY_LENGTH;
+        return tolower(from) == to ? STATION_REFUSED_REPLY_CHECK_CODE : STATION_REFUSED_REPLY_LENGTH;
     return place == size - 1 ? STATION_REFUSED_REPLY_NO_RETURN : STATION_REFUSED_REPLY_CHECK_CODE;
 }
 
@@ -811,7 +812,7 @@ static void test_changed_bytes(void)
                 struct packet p = good;
 
                 p.bytes[place] ^= (uint8_t)change;
-                EXPECT_PACKET_REFUSED(p, refusal_of_change(place, p.bytes[place], p.size));
+                EXPECT_PACKET_REFUSED(p, refusal_of_change(place, good.bytes[place], p.bytes[place], p.size));
             }
         }
     }
@@ -873,11 +874,9 @@ static void test_headers(void)
     }
 }
 
-/* 32: L is 4 to 64 in capital digits, and the packet has L + 9 bytes. */
+/* 32: L is 4 to 64, and the packet has L + 9 bytes. */
 static void test_lengths(void)
 {
-    struct packet small = reply_of('B', "C31630313233343536373839");
-
     for (int l = 3; l <= 80; l++) {
         char text[80] = {0};
         struct packet p;
@@ -889,10 +888,6 @@ static void test_lengths(void)
         else
             EXPECT_PACKET_REFUSED(p, l <= 64 ? STATION_REFUSED_REPLY_MESSAGE : STATION_REFUSED_REPLY_LENGTH);
     }
-    CHECK(memcmp(small.bytes + 5, "1A", 2) == 0, "the packet with a letter in its length");
-    small.bytes[6] = 'a';
-    mend_check_code(&small);
-    EXPECT_PACKET_REFUSED(small, STATION_REFUSED_REPLY_LENGTH);
 }
 
 /* 35: texts that are nearly replies. */
@@ -904,7 +899,7 @@ static void test_near_replies(void)
     } near[] = {
         {'B', "BF"}, {'B', "be"}, {'B', "BE0"}, {'D', "BE"}, {'F', "BE"},
         {'B', "0000100000640032"}, {'D', "000010000064003"}, {'D', "00001000006400320"}, {'F', "000010000064003G"},
-        {'D', "0200100000640032"}, {'F', "0000100200640032"}, {'D', "000010000064003a"}, {'F', "A000100000640032"},
+        {'D', "0200100000640032"}, {'F', "0000100200640032"}, {'D', "000010000064003g"}, {'F', "A000100000640032"},
         {'B', "0202D60000040001"}, {'B', "0300D60000040001"}, {'B', "0200D70000040001"}, {'B', "0200D60100040001"},
         {'B', "0200D60000050001"}, {'B', "0200D60000040000"}, {'B', "0200D60000040003"}, {'B', "0200D60000040005"},
         {'B', "0200D60000040101"}, {'B', "0200D6000004000"}, {'B', "0200D600000400010"}, {'D', "0200D60000040001"},
@@ -929,6 +924,59 @@ static void test_near_replies(void)
         EXPECT_PACKET_REFUSED(reply_of(near[i].type, near[i].text), STATION_REFUSED_REPLY_MESSAGE);
 }
 
+/* Where the name in a reply's text begins and ends; Get and Set replies have none. */
+static void find_name(const struct reply *reply, size_t *begin, size_t *end)
+{
+    *begin = reply->kind == STATION_REPLY_POWER_READ ? 4 : reply->kind == STATION_REPLY_POWER_CONTROL ? 2 : 0;
+    *end = reply->kind == STATION_REPLY_POWER_CONTROL ? 8 : reply->kind == STATION_REPLY_POWER_READ ? 6 : 4;
+    if (reply->type != 'B')
+        *end = 0;
+    else if (reply->kind == STATION_REPLY_NULL)
+        *end = 2;
+}
+
+/* Every spelling of a reply's digits with its own check code is read as the reply; a letter of its name in small is 35. */
+static void try_spellings(const struct reply *reply)
+{
+    const struct packet capitals = reply_of(reply->type, reply->text);
+    size_t letters[LONGEST], count = 0, begin, end;
+
+    find_name(reply, &begin, &end);
+    for (size_t place = 5; place < capitals.size - 3; place++) {
+        struct packet p = capitals;
+        bool is_letter = strchr("ABCDEF", capitals.bytes[place]) != NULL;
+
+        if (is_letter && place >= 8 + begin && place < 8 + end) {
+            p.bytes[place] = (uint8_t)tolower(p.bytes[place]);
+            mend_check_code(&p);
+            EXPECT_PACKET_REFUSED(p, STATION_REFUSED_REPLY_MESSAGE);
+        } else if (is_letter) {
+            letters[count++] = place;
+        }
+    }
+    CHECK(count <= 13, "%s: %zu letters", reply->text, count);
+    for (size_t mask = 0; mask < (size_t)1 << count && count <= 13; mask++) {
+        struct packet p = capitals;
+
+        for (size_t i = 0; i < count; i++)
+            p.bytes[letters[i]] += mask >> i & 1 ? 'a' - 'A' : 0;
+        mend_check_code(&p);
+        EXPECT_REPLY(p, reply, 1, 0);
+    }
+}
+
+static void test_spellings(void)
+{
+    static const struct reply erase = {'D', "00F0010100010000", STATION_REPLY_GET, 6, {0, 0xF0, 0x01, 1, 1, 0}, 0, ""};
+    static const char *const types = "bdf";
+
+    for (size_t i = 0; i < COUNT(every_reply); i++)
+        try_spellings(&every_reply[i]);
+    try_spellings(&erase);
+    for (size_t i = 0; types[i] != '\0'; i++)
+        EXPECT_PACKET_REFUSED(reply_of(types[i], "BE"), STATION_REFUSED_REPLY_HEADER);
+}
+
 /* Every byte that is no digit, in each place of a reply's text. */
 static void try_bad_digits(const struct reply *reply)
 {
@@ -936,7 +984,7 @@ static void try_bad_digits(const struct reply *reply)
         for (int b = 0; b <= 255; b++) {
             struct packet p = reply_of(reply->type, reply->text);
 
-            if (b != 0 && strchr("0123456789ABCDEF", b) != NULL)
+            if (b != 0 && strchr("0123456789ABCDEFabcdef", b) != NULL)
                 continue;
             p.bytes[8 + place] = (uint8_t)b;
             mend_check_code(&p);
@@ -945,7 +993,7 @@ static void try_bad_digits(const struct reply *reply)
     }
 }
 
-/* Sixteen bytes are digits in each place of a value. With any other byte the text is no reply's: names consist of digits too. */
+/* Twenty-two bytes are digits in each place of a value. With any other byte the text is no reply's: names consist of digits too. */
 static void test_digits(void)
 {
     for (size_t i = 0; i < COUNT(every_reply); i++)
@@ -957,6 +1005,8 @@ static void test_digits(void)
 
             reply.numbers[5] = (uint16_t)(digit << 4 * place);
             snprintf(text, sizeof text, "%.12s%04X", reply.text, reply.numbers[5]);
+            EXPECT_REPLY(reply_of(reply.type, text), &reply, 1, 0);
+            snprintf(text, sizeof text, "%.12s%04x", reply.text, reply.numbers[5]);
             EXPECT_REPLY(reply_of(reply.type, text), &reply, 1, 0);
         }
     }
@@ -1030,6 +1080,7 @@ static void test_all(void)
     RUN(test_lengths);
     RUN(test_near_replies);
     RUN(test_digits);
+    RUN(test_spellings);
     RUN(test_message_ends);
     RUN(test_unseen_changes);
 }

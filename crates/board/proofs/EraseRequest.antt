@@ -8,9 +8,9 @@ use native.Mathlib.Omega.{arith}
 use lib.Dec.{eqb}
 use lib.ListN.{length, getD, replicate}
 use borrow.Author.Tests.{eqb-false}
-use Rattle.wire.specs.Packet.{packet, zeroByte, packetText, typeE}
+use Rattle.wire.specs.Packet.{packetWith, packet, zeroByte, packetText, typeE}
 use Rattle.wire.proofs.Tests.{cond-by}
-use Rattle.wire.proofs.PacketLaws.{text-packet}
+use Rattle.wire.proofs.PacketLaws.{written-text}
 use Rattle.messages.specs.Message.Request.{setParameter}
 use Rattle.messages.specs.Text.{requestType, requestText}
 use Rattle.messages.specs.Read.{requestIn}
@@ -30,9 +30,9 @@ use Rattle.board.proofs.PacketFed.{call-done, packet-answered, fed-alik
 
 -- on or in standby, it begins an erase
 erase-begins : (i : Identity) (m : List ℕ) (dest : ℕ) → effect i m (requestIn (getD (erasePacket dest) 4 0) (packetText (erasePacket dest))) ≡ begins
-unfolding erasePacket eraseText packet requestText requestType effectOf setEffect
+unfolding erasePacket eraseText packet packetWith requestText requestType effectOf setEffect
 erase-begins i m dest =
-    rw (text-packet dest zeroByte typeE eraseText (omega arith), request-back (setParameter 0xF0 0x01 1) (omega arith, omega arith, omega arith))
+    rw (written-text dest zeroByte typeE eraseText (omega arith), request-back (setParameter 0xF0 0x01 1) (omega arith, omega arith, omega arith))
 
 module _ (i : Identity) (m lent : List ℕ) (dest : ℕ) where
   abbrev Begun : Addressee → Type 0
@@ -48,7 +48,7 @@ module _ (i : Identity) (m lent : List ℕ) (dest : ℕ) where
 
   -- to its ID and to ALL
   packet-begins : (dest ≡ 0x40 + i .id) ⊎ (dest ≡ 0x2A) → onPacket i m (erasePacket dest) lent .answer ≡ begun
-  unfolding onPacket addressee erasePacket packet
+  unfolding onPacket addressee erasePacket packet packetWith
   packet-begins to =
       cond-by Begun (eqb dest (0x40 + i .id)) _ _ (λ _. own-begins)
       (λ t. cond-by Begun (eqb dest 0x2A) _ _ (λ _. all-begins) (λ u. absurd (⊎-elim (eqb-false dest (0x40 + i .id) t) (eqb-false dest 0x2A u) to)))

@@ -4,7 +4,7 @@ use mathlib.Core.Bool.{Bool, true, _&&_}
 use mathlib.Core.List.{List}
 use Prim.Native.Nat.{ℕ, zero, suc, _<_}
 use native.Mathlib.Omega.{arith}
-use Rattle.wire.specs.Packet.{xorFrom, packet, zeroByte, typeE}
+use Rattle.wire.specs.Packet.{xorFrom, packetWith, packet, zeroByte, typeE}
 use Rattle.messages.specs.Message.Request.{setParameter}
 use Rattle.messages.specs.Message.Reply.{setReply}
 use Rattle.messages.specs.Text.{replyType, replyText, parameterText, requestText}
@@ -33,7 +33,7 @@ each-same : (f g : ℕ → List ℕ) (n k : ℕ) → each (λ k. same (f k) (g k
 each-same f g n k e h = same-eq (f k) (g k) (each-one (λ k. same (f k) (g k)) n k e h)
 
 pub reply-bytes : (i : Identity) → isIdentity i ≡ true → eraseReply i ≡ eraseReplyBytes (i .id)
-unfolding eraseReply replyWith packet xorFrom replyType replyText parameterText same
+unfolding eraseReply replyWith packet packetWith xorFrom replyType replyText parameterText same
 reply-bytes i named = each-same (λ id. replyWith id (setReply 0 0xF0 0x01 1 1 1)) eraseReplyBytes 9 (i .id) refl (omega (arith, named-told i named .most))
 
 pub unused-bytes : unusedStore ≡ unusedBytes
@@ -48,5 +48,5 @@ unfoldable pub erasePacket : ℕ → List ℕ
 erasePacket dest = packet dest zeroByte typeE eraseText
 
 pub request-bytes : (dest : ℕ) → dest < 256 → erasePacket dest ≡ eraseRequest dest
-unfolding erasePacket eraseText packet xorFrom requestText same
+unfolding erasePacket eraseText packet packetWith xorFrom requestText same
 request-bytes dest h = each-same erasePacket eraseRequest 256 dest refl h

@@ -7,8 +7,10 @@ use native.Mathlib.Nat.{zero-add, add-zero}
 use native.Mathlib.Omega.{arith}
 use lib.ListN.{length, replicate}
 use borrow.Author.Tests.{le-ltb}
-use Rattle.wire.specs.Packet.{zeroByte, packet}
+use Rattle.wire.specs.Digits.{two, SameDigits}
+use Rattle.wire.specs.Packet.{zeroByte, packetWith, packet}
 use Rattle.wire.specs.Judge.{isRequestType}
+use Rattle.wire.proofs.PacketLaws.{written-counted}
 use Rattle.receiver.specs.Receive as receive
 use Rattle.receiver.proofs.Laws.{accept-proper, byte-accepted}
 use Rattle.receiver.proofs.Theorems.{packet-received}
@@ -54,17 +56,18 @@ module _ (i : Identity) (m : List ℕ) (lent : ℕ → List ℕ) (room : (k : �
       rw (last, byte-received k b held r w, bytes-fed n (suc k) (receive.onByte held b .held) bytes p es (byte-leaves b held r) (cc))
 
 -- a sound board with no erase pending and nothing held
-pub packet-fed : (s : BoardState) (m : List ℕ) (lent : ℕ → List ℕ) (dest kind : ℕ) (text : List ℕ) (es : Events)
+pub packet-fed : (s : BoardState) (m : List ℕ) (lent : ℕ → List ℕ) (dest kind : ℕ) (digits text : List ℕ) (es : Events)
     → isSound boardKind s m ≡ true → s .erase ≡ idle → s .held ≡ []
-    → ((k : ℕ) → 64 ≤ length (lent k)) → isRequestType kind ≡ true → 2 ≤ length text → length text ≤ 62
-    → run boardKind (s .ident) s m (byteCalls lent 0 (packet dest zeroByte kind text) ++ es)
-    ≡ waits lent m 0 (length text + 10) ++ seenThen (s .ident) m (onPacket (s .ident) m (packet dest zeroByte kind text) (lent (length text + 10))) es
-packet-fed s m lent dest kind text es h q n room request least most =
-    let p = packet dest zeroByte kind text in
+    → ((k : ℕ) → 64 ≤ length (lent k)) → SameDigits (two (length text + 2)) digits
+    → isRequestType kind ≡ true → 2 ≤ length text → length text ≤ 62
+    → run boardKind (s .ident) s m (byteCalls lent 0 (packetWith dest zeroByte kind digits text) ++ es)
+    ≡ waits lent m 0 (length text + 10) ++ seenThen (s .ident) m (onPacket (s .ident) m (packetWith dest zeroByte kind digits text) (lent (length text + 10))) es
+packet-fed s m lent dest kind digits text es h q n room counted request least most =
+    let p = packetWith dest zeroByte kind digits text in
     let is : s ≡ holding (s .ident) [] = λ j. record { ident = s .ident; held = n j; erase = q j } in
     ap (λ (b : BoardState). run boardKind (s .ident) b m (byteCalls lent 0 p ++ es)) is
     ∙ rw zero-add at (bytes-fed (s .ident) m lent room (length text + 10) 0 [] p p es (subst (λ (held : List ℕ). Resting (s .ident) held m) n (resting s m q h))
-    (packet-received dest kind text request least most))
+    (packet-received dest kind digits text counted request least most))
 
 -- ---- its answers alone
 
@@ -82,10 +85,11 @@ pub packet-answered : (s : BoardState) (m : List ℕ) (lent : ℕ → List ℕ) 
     → ((k : ℕ) → 64 ≤ length (lent k)) → isRequestType kind ≡ true → 2 ≤ length text → length text ≤ 62
     → answersIn (run boardKind (s .ident) s m (byteCalls lent 0 (packet dest zeroByte kind text)))
     ≡ replicate (length text + 10) waiting ++ (onPacket (s .ident) m (packet dest zeroByte kind text) (lent (length text + 10)) .answer ∷ [])
+unfolding packet
 packet-answered s m lent dest kind text h q n room request least most =
     let p = packet dest zeroByte kind text in
     ap (λ (es : Events). answersIn (run boardKind (s .ident) s m es)) (sym (append-nil (byteCalls lent 0 p)))
-    ∙ ap answersIn (packet-fed s m lent dest kind text [] h q n room request least most)
+    ∙ ap answersIn (packet-fed s m lent dest kind (two (length text + 2)) text [] h q n room (written-counted text) request least most)
     ∙ waited (length text + 10) 0 m lent _
     ∙ ap (λ (l : List (Answer ℕ)). replicate (length text + 10) waiting ++ l) (last-answered (s .ident) m (onPacket (s .ident) m p (lent (length text + 10))))
 

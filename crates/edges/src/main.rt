@@ -8,6 +8,7 @@ use transcript::feed;
 use wire::digits;
 
 mod dates;
+mod letters;
 mod schedules;
 
 fn main() {
@@ -17,6 +18,7 @@ fn main() {
     check_codes();
     places();
     serials();
+    letters::all();
     dates::all();
     schedules::all();
     stores();

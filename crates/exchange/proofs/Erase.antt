@@ -5,7 +5,9 @@ use mathlib.Core.List.{List, [], _++_}
 use Prim.Native.Nat.{ℕ, _+_, _≤_, _<_}
 use native.Mathlib.Omega.{arith}
 use lib.ListN.{length}
-use Rattle.wire.specs.Packet.{typeE}
+use Rattle.wire.specs.Digits.{two}
+use Rattle.wire.specs.Packet.{typeE, packet}
+use Rattle.wire.proofs.PacketLaws.{written-counted}
 use Rattle.messages.specs.Message.Request.{setParameter}
 use Rattle.messages.specs.Text.{requestType, requestText}
 use Rattle.messages.specs.Read.{requestIn}
@@ -31,12 +33,12 @@ module _ (i : Identity) (m : List ℕ) (ready : Ready i m) where
     Begins owed p = run boardKind i (holding i []) m (byteCalls lent 0 p ++ es) ≡ waits lent m 0 18 ++ seenThen i m (beginsErase i owed (lent 18)) es
 
     own-begins : Begins true (erasePacket (0x40 + i .id))
-    unfolding erasePacket eraseText requestText toOwn
-    own-begins = own-seen i m (ready .rests) typeE eraseText refl (omega arith) (omega arith) lent room es erase-begins
+    unfolding erasePacket eraseText requestText packet toOwn
+    own-begins = own-seen i m (ready .rests) typeE (two (length eraseText + 2)) eraseText (written-counted eraseText) refl (omega arith) (omega arith) lent room es erase-begins
 
     all-begins : Begins false (erasePacket 0x2A)
-    unfolding erasePacket eraseText requestText toAll
-    all-begins = all-seen i m (ready .rests) typeE eraseText refl (omega arith) (omega arith) lent room es erase-begins
+    unfolding erasePacket eraseText requestText packet toAll
+    all-begins = all-seen i m (ready .rests) typeE (two (length eraseText + 2)) eraseText (written-counted eraseText) refl (omega arith) (omega arith) lent room es erase-begins
 
   pub set-erase : BeginsErase i m
   unfolding seen

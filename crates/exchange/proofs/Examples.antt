@@ -2,21 +2,24 @@
 use mathlib.Core.Path.{_≡_, refl, ap, sym, _∙_}
 use mathlib.Core.Bool.{true}
 use mathlib.Core.List.{List, [], _∷_, _++_, append-nil}
+use mathlib.Core.Logic.{inl, inr}
 use mathlib.Core.Option.{bind}
 use Prim.Native.Nat.{ℕ, _+_, _-_, _≤_}
 use native.Mathlib.Omega.{arith}
 use borrow.Author.Tests.{le-ltb}
 use lib.ListN.{length, set, replicate}
 use Rattle.bitfield.specs.Field.{getField, putField, setBit, withBit, bit, bitOf}
-use Rattle.wire.specs.Digits.{valueOf, twoAt, fourAt, octetsIn, unhex, hexOf, padded}
-use Rattle.wire.specs.Packet.{zeroByte, over, xorFrom, packet, packetText, size, typeA, typeC, typeE}
+use Rattle.wire.specs.Digits.{two, valueOf, twoAt, fourAt, octetsIn, unhex, hexOf, padded, SameDigits}
+use Rattle.wire.specs.Packet.{zeroByte, over, xorFrom, packetWith, packet, packetText, size, typeA, typeC, typeE}
 use Rattle.wire.specs.Judge.{isRequestType}
-use Rattle.wire.proofs.PacketLaws.{packet-length, text-packet}
+use Rattle.wire.proofs.CaseLaws.{same-itself}
+use Rattle.wire.proofs.PacketLaws.{packet-length, written-counted}
 use Rattle.messages.specs.Message.{Request, Reply}
 use Rattle.messages.specs.Message.Request.{getParameter, setParameter, powerControl}
 use Rattle.messages.specs.Message.ScheduleReply.{scheduleReadReply, scheduleWriteReply, scheduleEnableReply}
 use Rattle.messages.specs.Message.Reply.{null, getReply, setReply, powerReadReply, powerControlReply, dateReadReply, dateWriteReply, itemReply, tagWriteReply, scheduleReply}
 use Rattle.messages.specs.Text.{requestType, requestText, replyType, replyText, parameterText, dateText, scheduleReplyText}
+use Rattle.messages.specs.Spelling.{SpeltRequest}
 use Rattle.messages.specs.declared.message.Date.{Date}
 use Rattle.messages.specs.declared.message.Item.{Item}
 use Rattle.messages.specs.Read.{beginsWith, isName, dateIn, numbersIn, getIn, setIn, powerControlIn, scheduleReadIn, scheduleEnableIn, commandIn, requestIn}
@@ -35,14 +38,15 @@ use Rattle.schedule.specs.Numbers as program
 use Rattle.schedule.specs.Numbers.{areZero, keptFields}
 use Rattle.calendar.specs.Calendar.{daysIn, isDay, beforeYear, beforeMonth, weekdayOf, isAccepted}
 use Rattle.store.specs.Contents.{isOn, dateOf, dateStores, withDate, tagOf, formerTagOf, tagStores, withLengths}
-use Rattle.actions.specs.Act.{Effect, replies, begins, powerControlEffect, dateWriteEffect, getEffect, setEffect, powerReadEffect, scheduleWriteEffect, scheduleEnableEffect, scheduleEffect, effectOf, effect}
-use Rattle.packets.specs.Packets.{isIdentity, replyWith, replyFrom, addressee, toOwn, toAll, onPacketTo, onPacket, BoardOutcome}
+use Rattle.actions.specs.Act.{replies, begins, powerControlEffect, dateWriteEffect, getEffect, setEffect, powerReadEffect, scheduleWriteEffect, scheduleEnableEffect, scheduleEffect, effectOf, effect}
+use Rattle.packets.specs.Packets.{isIdentity, replyWith, replyFrom, toOwn, toAll, onPacket, BoardOutcome}
 use Rattle.board.specs.BoardKind.{eraseReply, boardKind}
 use Rattle.board.specs.Demand3.{unusedBytes}
 use Rattle.board.specs.ByteCalls.{byteCalls, waits, seenThen}
 use Rattle.board.proofs.PacketFed.{packet-fed}
 use Rattle.station.specs.Encode.{sends, isInRange, addressIn, encodingTo, encodingOf}
 use Rattle.station.specs.declared.encode.Destination.{Destination}
+use Rattle.exchange.proofs.Requests.{own-done, all-done}
 use Rattle.exchange.specs.Examples as examples
 use Rattle.exchange.specs.Examples.{one, resting, atLastPlace, Seen, Holds, AllHold, p1, p1Reply, p2, p2To8, p3, set80, p4, p5, p6, p7, unknown, p8, status, p9, p10, p10Reply}
 use Rattle.exchange.specs.Examples.{writeLeapDay, leapDayWritten, writeMonday, mondayRefused, writeMissing, missingRefused, earlierShown, datedLeapDay, datedEarlier}
@@ -51,6 +55,7 @@ use Rattle.exchange.specs.Examples.{askTag, tagShown, askFormer, formerS
 use Rattle.exchange.specs.Examples.{setTile, tileRefused, getUnlisted, unlistedShown, tagged, retagged, dated}
 use Rattle.exchange.specs.Examples.{askProgram, programShown, writeProgram, programWritten, disableProgram, programDisabled, enableProgram, programEnabled}
 use Rattle.exchange.specs.Examples.{writeLate, lateRefused, askSeven, enableSeven, sevenRefused, programmed}
+use Rattle.exchange.specs.Examples.{p1Small, set75, shown75, eraseSmall, askTagSmall, writeTagSmall, tagSmallWritten, taggedSmall}
 
 -- ---- what the encoder writes
 
@@ -62,50 +67,56 @@ written dest r bytes e room h = rw (le-ltb room 64 h) e
 -- ---- what a board replies
 
 -- what is seen of a packet, by what it leaves
-seen-of : (m : List ℕ) (dest kind : ℕ) (text p left : List ℕ) (a : Answer ℕ) (buffer : List ℕ → List ℕ) (o : List ℕ → BoardOutcome)
-    → isSound boardKind resting m ≡ true → isRequestType kind ≡ true → 2 ≤ length text → length text ≤ 62 → packet dest zeroByte kind text ≡ p
-    → ((lent : List ℕ) → onPacket one m (packet dest zeroByte kind text) lent ≡ o lent)
+seen-of : (m : List ℕ) (dest kind : ℕ) (digits text p left : List ℕ) (a : Answer ℕ) (buffer : List ℕ → List ℕ) (o : List ℕ → BoardOutcome)
+    → SameDigits (two (length text + 2)) digits
+    → isSound boardKind resting m ≡ true → isRequestType kind ≡ true → 2 ≤ length text → length text ≤ 62 → packetWith dest zeroByte kind digits text ≡ p
+    → ((lent : List ℕ) → onPacket one m (packetWith dest zeroByte kind digits text) lent ≡ o lent)
     → ((lent : List ℕ) → seen boardKind (o lent) m ≡ answered a (buffer lent) left)
     → Seen m p a buffer left
 unfolding run
-seen-of m dest kind text p left a buffer o sound request least most given does shows lent room =
+seen-of m dest kind digits text p left a buffer o counted sound request least most given does shows lent room =
     let n = length text + 10 in
-    let l : length (packet dest zeroByte kind text) - 1 ≡ n = rw packet-length (omega arith) in
+    let l : length (packetWith dest zeroByte kind digits text) - 1 ≡ n = rw (packet-length dest zeroByte kind digits text counted) (omega arith) in
     rw (← given, l)
-    (ap (run boardKind one resting m) (sym (append-nil (byteCalls lent 0 (packet dest zeroByte kind text))))
-    ∙ packet-fed resting m lent dest kind text [] sound refl refl room request least most
+    (ap (run boardKind one resting m) (sym (append-nil (byteCalls lent 0 (packetWith dest zeroByte kind digits text))))
+    ∙ packet-fed resting m lent dest kind digits text [] sound refl refl room counted request least most
     ∙ ap (λ (o : BoardOutcome). waits lent m 0 n ++ seenThen one m o []) (does (lent n))
     ∙ ap (λ (x : lists.Seen ℕ). waits lent m 0 n ++ (x ∷ [])) (shows (lent n)))
 
-module _ (m : List ℕ) (kind : ℕ) (text : List ℕ) (x : Effect) (is : effect one m (requestIn kind text) ≡ x) (most : length text ≤ 62) where
-  to-own : (lent : List ℕ) → onPacket one m (packet 0x41 zeroByte kind text) lent ≡ toOwn one x lent
-  unfolding onPacket onPacketTo addressee packet
-  to-own lent = rw (text-packet 0x41 zeroByte kind text most, is)
-
-  to-all : (lent : List ℕ) → onPacket one m (packet 0x2A zeroByte kind text) lent ≡ toAll one x lent
-  unfolding onPacket onPacketTo addressee packet
-  to-all lent = rw (text-packet 0x2A zeroByte kind text most, is)
-
--- a reply, and the same in silence
-module _ (m : List ℕ) (kind : ℕ) (text : List ℕ) (r : Reply) (es : List Entry) (is : effect one m (requestIn kind text) ≡ replies r es)
-    (p left : List ℕ) (sound : isSound boardKind resting m ≡ true) (request : isRequestType kind ≡ true) (least : 2 ≤ length text) (most : length text ≤ 62) where
-  replied : (bytes : List ℕ) → packet 0x41 zeroByte kind text ≡ p → replyFrom one r ≡ bytes → applied es m ≡ left → Holds (examples.replies m p bytes left)
-  unfolding seen toOwn
-  replied bytes given sent stored =
-      seen-of m 0x41 kind text p left (reply (length bytes)) (over bytes) (toOwn one (replies r es)) sound request least most given
-      (to-own m kind text (replies r es) is most) (λ lent. rw (← sent, ← stored))
-
-  acted : packet 0x2A zeroByte kind text ≡ p → applied es m ≡ left → Holds (examples.acts m p left)
-  unfolding seen toAll
-  acted given stored =
-      seen-of m 0x2A kind text p left silent (λ lent. lent) (toAll one (replies r es)) sound request least most given
-      (to-all m kind text (replies r es) is most) (λ lent. rw (← stored))
-
-begun-by : (m : List ℕ) (kind : ℕ) (text p left : List ℕ) → effect one m (requestIn kind text) ≡ begins → isSound boardKind resting m ≡ true
-    → isRequestType kind ≡ true → 2 ≤ length text → length text ≤ 62 → packet 0x41 zeroByte kind text ≡ p → set m 0 0xE7 ≡ left → Holds (examples.begins m p left)
+spelt-replied : (m : List ℕ) (kind : ℕ) (digits text : List ℕ) → SameDigits (two (length text + 2)) digits → (r : Reply) (es : List Entry)
+    → effect one m (requestIn kind text) ≡ replies r es → (p left : List ℕ)
+    → isSound boardKind resting m ≡ true → isRequestType kind ≡ true → 2 ≤ length text → length text ≤ 62
+    → (bytes : List ℕ) → packetWith 0x41 zeroByte kind digits text ≡ p → replyFrom one r ≡ bytes → applied es m ≡ left
+    → Holds (examples.replies m p bytes left)
 unfolding seen toOwn
-begun-by m kind text p left is sound request least most given stored =
-    seen-of m 0x41 kind text p left begun (λ lent. lent) (toOwn one begins) sound request least most given (to-own m kind text begins is most) (λ lent. rw (← stored))
+spelt-replied m kind digits text counted r es is p left sound request least most bytes given sent stored =
+    seen-of m 0x41 kind digits text p left (reply (length bytes)) (over bytes) (toOwn one (replies r es)) counted sound request least most given
+    (λ lent. own-done one m lent kind digits text counted most ∙ rw is) (λ lent. rw (← sent, ← stored))
+
+-- with length digits as they are written: a reply, and the same in silence
+module _ (m : List ℕ) (kind : ℕ) (text : List ℕ) where
+  abbrev digits : List ℕ
+  digits = two (length text + 2)
+
+  module _ (r : Reply) (es : List Entry) (is : effect one m (requestIn kind text) ≡ replies r es)
+      (p left : List ℕ) (sound : isSound boardKind resting m ≡ true) (request : isRequestType kind ≡ true) (least : 2 ≤ length text) (most : length text ≤ 62) where
+    replied : (bytes : List ℕ) → packetWith 0x41 zeroByte kind digits text ≡ p → replyFrom one r ≡ bytes → applied es m ≡ left
+        → Holds (examples.replies m p bytes left)
+    replied = spelt-replied m kind digits text (written-counted text) r es is p left sound request least most
+
+    acted : packetWith 0x2A zeroByte kind digits text ≡ p → applied es m ≡ left → Holds (examples.acts m p left)
+    unfolding seen toAll
+    acted given stored =
+        seen-of m 0x2A kind digits text p left silent (λ lent. lent) (toAll one (replies r es)) (written-counted text) sound request least most given
+        (λ lent. all-done one m lent kind digits text (written-counted text) most ∙ rw is) (λ lent. rw (← stored))
+
+  begun-by : (p left : List ℕ) → effect one m (requestIn kind text) ≡ begins → isSound boardKind resting m ≡ true
+      → isRequestType kind ≡ true → 2 ≤ length text → length text ≤ 62 → packetWith 0x41 zeroByte kind digits text ≡ p → set m 0 0xE7 ≡ left
+      → Holds (examples.begins m p left)
+  unfolding seen toOwn
+  begun-by p left is sound request least most given stored =
+      seen-of m 0x41 kind digits text p left begun (λ lent. lent) (toOwn one begins) (written-counted text) sound request least most given
+      (λ lent. own-done one m lent kind digits text (written-counted text) most ∙ rw is) (λ lent. rw (← stored))
 
 -- ---- the last step of an erase
 
@@ -114,7 +125,7 @@ unfolding onStep stepOn entryCheckOf entryCheck eraseStep isShort isSound isSoun
 last-step lent h = rw (le-ltb (length lent) 64 h)
 
 erased : Holds (examples.erases p7)
-unfolding run seen endStep atRest mark unusedStore eraseReply replyWith replyType replyText parameterText packet xorFrom
+unfolding run seen endStep atRest mark unusedStore eraseReply replyWith replyType replyText parameterText packet packetWith xorFrom
 erased lent h = rw (last-step lent h)
 
 -- ---- all of them
@@ -124,7 +135,7 @@ _and_ : {A B : Type 0} → A → B → A × B
 a and b = (a, b)
 
 pub examples-hold : AllHold examples.examples
-unfolding AllHold requestType requestText packet xorFrom packetText size twoAt fourAt valueOf
+unfolding AllHold requestType requestText packet packetWith xorFrom packetText size twoAt fourAt valueOf
     isSound isSoundAs isIdentity mark inRange fieldsInRange firstInRange unusedStore isProperBeginning getField bit bitOf
     requestIn getIn setIn commandIn beginsWith isName bind effectOf getEffect setEffect powerReadEffect powerControlEffect powerControlIn settingAt current isOn fieldStores putField setBit withBit
     replyWith replyType replyText parameterText
@@ -174,8 +185,29 @@ weekdays = 2 ∷ 7 ∷ 0 ∷ 23 ∷ 30 ∷ 17 ∷ 0x1F ∷ 0x06 ∷ replicate 8 
 abbrev late : List ℕ
 late = 2 ∷ 25 ∷ 0 ∷ 23 ∷ 30 ∷ 17 ∷ 0x1F ∷ 0x06 ∷ replicate 8 0
 
+-- a Set in digits of either case
+spelt : (page code v : ℕ) (p digits text : List ℕ) → SameDigits (two (length text + 2)) digits → SameDigits (requestText (setParameter page code v)) text
+    → p ≡ packetWith 0x41 zeroByte typeE digits text → SpeltRequest 0x41 (setParameter page code v) p
+unfolding requestType
+spelt page code v p digits text counted said whole =
+    record { digits = digits; text = text; counted = counted; said = record { digits = said; name = refl }; whole = whole }
+
+-- 0010004B as 0010004b, and F0010001 as f0010001
+small-75 : SameDigits (requestText (setParameter 0x00 0x10 75)) (packetText set75)
+unfolding SameDigits requestText packetText size twoAt valueOf
+small-75 = (inl refl, (inl refl, (inl refl, (inl refl, (inl refl, (inl refl, (inl refl, (inr (omega arith, omega arith, refl), tt))))))))
+
+small-erase : SameDigits (requestText (setParameter 0xF0 0x01 1)) (packetText eraseSmall)
+unfolding SameDigits requestText packetText size twoAt valueOf
+small-erase = (inr (omega arith, omega arith, refl), (inl refl, (inl refl, (inl refl, (inl refl, (inl refl, (inl refl, (inl refl, tt))))))))
+
+-- 10 as 0a
+small-ten : SameDigits (two 10) (0x30 ∷ 0x61 ∷ [])
+unfolding SameDigits
+small-ten = (inl refl, (inr (omega arith, omega arith, refl), tt))
+
 pub row-examples-hold : AllHold examples.rowExamples
-unfolding AllHold requestType requestText packet xorFrom packetText size twoAt fourAt valueOf
+unfolding AllHold requestType requestText packet packetWith xorFrom packetText size twoAt fourAt valueOf
     isSound isSoundAs isIdentity mark inRange fieldsInRange firstInRange unusedStore isProperBeginning getField bit bitOf
     requestIn getIn setIn commandIn beginsWith isName bind effectOf getEffect setEffect powerReadEffect powerControlEffect powerControlIn settingAt current isOn fieldStores putField setBit withBit
     replyWith replyType replyText parameterText
@@ -208,4 +240,12 @@ row-examples-hold =
     and replied programmed typeA (packetText writeLate) (scheduleReply (scheduleWriteReply 1 late)) [] refl writeLate programmed refl refl (omega arith) (omega arith) lateRefused refl refl refl
     and replied programmed typeA (packetText askSeven) null [] refl askSeven programmed refl refl (omega arith) (omega arith) p8 refl refl refl
     and replied programmed typeA (packetText enableSeven) (scheduleReply (scheduleEnableReply 1 7 1)) [] refl enableSeven programmed refl refl (omega arith) (omega arith) sevenRefused refl refl refl
+    and spelt 0x00 0x10 100 p1Small (0x30 ∷ 0x61 ∷ []) (packetText p1Small) small-ten (same-itself (packetText p1Small)) refl
+    and spelt-replied unusedBytes typeE (0x30 ∷ 0x61 ∷ []) (packetText p1Small) small-ten (setReply 0 0x00 0x10 0 100 100) (entry 1 0xC8 ∷ []) refl p1Small (set unusedBytes 1 0xC8) refl refl (omega arith) (omega arith) p1Reply refl refl refl
+    and spelt 0x00 0x10 75 set75 (0x30 ∷ 0x41 ∷ []) (packetText set75) (same-itself (0x30 ∷ 0x41 ∷ [])) small-75 refl
+    and replied unusedBytes typeE (packetText set75) (setReply 0 0x00 0x10 0 100 75) (entry 1 0x96 ∷ []) refl set75 (set unusedBytes 1 0x96) refl refl (omega arith) (omega arith) shown75 refl refl refl
+    and spelt 0xF0 0x01 1 eraseSmall (0x30 ∷ 0x41 ∷ []) (packetText eraseSmall) (same-itself (0x30 ∷ 0x41 ∷ [])) small-erase refl
+    and begun-by unusedBytes typeE (packetText eraseSmall) eraseSmall (set unusedBytes 0 0xE7) refl refl refl (omega arith) (omega arith) refl refl
+    and replied unusedBytes typeA (packetText askTagSmall) null [] refl askTagSmall unusedBytes refl refl (omega arith) (omega arith) p8 refl refl refl
+    and replied unusedBytes typeA (packetText writeTagSmall) (tagWriteReply 0 (0x6D ∷ 0x4A ∷ [])) (tagStores unusedBytes (0x6D ∷ 0x4A ∷ [])) refl writeTagSmall taggedSmall refl refl (omega arith) (omega arith) tagSmallWritten refl refl refl
     and tt

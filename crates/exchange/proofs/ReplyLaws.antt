@@ -1,30 +1,29 @@
 -- Every reply of a board whose numbers are bytes has a text, and the station reads its packet as that reply of that board.
-use mathlib.Core.Path.{_≡_, refl, sym, _∙_, subst}
+use mathlib.Core.Path.{_≡_, refl, subst}
 use mathlib.Core.Bool.{true, _&&_}
 use mathlib.Core.List.{List, [], _∷_}
 use mathlib.Core.Option.{Option, none, some}
-use Prim.Native.Nat.{ℕ, zero, suc, _+_, _-_, _≤_, _<_}
+use Prim.Native.Nat.{ℕ, zero, suc, _+_, _≤_, _<_}
 use native.Mathlib.Omega.{arith}
 use lib.Dec.{leb, ltb, eqb}
-use lib.ListN.{length, getD, take, drop}
+use lib.ListN.{length, take, drop}
 use lib.Pow.{pow-mono}
 use lib.Seq.{getD-drop, drop-append-seam}
-use borrow.Author.Tests.{leb-true, ltb-true, le-leb, le-ltb, eq-eqb}
+use borrow.Author.Tests.{leb-true, ltb-true}
 use Rattle.plan.specs.Stores.{Entry}
 use Rattle.wire.specs.Digits.{Bytes}
-use Rattle.wire.specs.Packet.{addressOf, zeroByte, packet, replyPacket, over, size}
+use Rattle.wire.specs.Packet.{addressOf, over}
 use Rattle.bitfield.proofs.Laws.{get-lt}
 use Rattle.wire.proofs.Tests.{cond-by}
-use Rattle.wire.proofs.PacketLaws.{over-take, packet-length, size-packet, text-packet, packet-limits, packet-returns, packet-checks, packet-message}
+use Rattle.wire.proofs.PacketLaws.{over-take}
 use Rattle.messages.specs.Message.{ScheduleRequest, Request, Reply, IsNumbers, IsScheduleRequest, IsRequest, IsReply, isPowerMode}
 use Rattle.messages.specs.Message.ScheduleRequest.{scheduleRead, scheduleWrite, scheduleEnable}
 use Rattle.messages.specs.Message.Request.{getParameter, setParameter, powerRead, powerControl, dateRead, dateWrite, itemRead, tagWrite, schedule}
-use Rattle.messages.specs.Message.Reply.{null, getReply, setReply, powerReadReply, powerControlReply, dateReadReply, dateWriteReply, itemReply, tagWriteReply, scheduleReply}
-use Rattle.messages.specs.Text.{replyType, replyText}
 use Rattle.messages.specs.Read.{requestIn}
 use Rattle.messages.specs.declared.message.Item.{Item}
 use Rattle.messages.proofs.ParseLaws.{Found, request-fits}
-use Rattle.messages.proofs.RoundTrips.{reply-back, reply-length}
+use Rattle.messages.proofs.RoundTrips.{reply-length}
+use Rattle.messages.proofs.SpellingLaws.{reply-written}
 use Rattle.store.specs.Fields.{Field, read}
 use Rattle.store.specs.Layout.{year, month, day, weekday, hour, minute, tagLength, formerLength, tagPlace, formerTagPlace}
 use Rattle.layouts.specs.Layouts.{inRange}
@@ -61,8 +60,9 @@ use Rattle.actions.specs.Act.{
 use Rattle.packets.specs.Packets.{replyWith, replyFrom}
 use Rattle.packets.proofs.IdentityLaws.{Named}
 use Rattle.packets.proofs.ReplyLaws.{item-few, reply-size}
-use Rattle.station.specs.Read.{isReplyType, isReplyHeader, isWholeLength, replyInMessage, replyVerdict, readPacket}
+use Rattle.station.specs.Read.{readPacket}
 use Rattle.station.specs.Read as station
+use Rattle.station.proofs.ReadSpelt.{spelt-read}
 use Rattle.exchange.specs.Rows.{InBytes}
 use Rattle.exchange.specs.Demand2.{IsRead}
 
@@ -180,61 +180,10 @@ module _ (i : Identity) (m : List ℕ) (b : InBytes i m) (n : Named i) (ranged :
 
 -- ---- a reply's packet
 
-reply-type : (r : Reply) → isReplyType (replyType r) ≡ true
-unfolding replyType
-reply-type null = refl
-reply-type (getReply result page code operation largest value) = refl
-reply-type (setReply result page code operation largest value) = refl
-reply-type (powerReadReply status mode) = refl
-reply-type (powerControlReply status mode) = refl
-reply-type (dateReadReply d) = refl
-reply-type (dateWriteReply status d) = refl
-reply-type (itemReply i bytes) = refl
-reply-type (tagWriteReply status tag) = refl
-reply-type (scheduleReply r) = refl
-
-module _ (i : Identity) (n : Named i) (kind : ℕ) (text : List ℕ) where
-  abbrev sent : List ℕ
-  sent = replyPacket (addressOf (i .id)) kind text
-
-  sent-header : isReplyType kind ≡ true → isReplyHeader sent ≡ true
-  unfolding isReplyHeader packet
-  sent-header k = rw (le-leb 0x41 (0x40 + i .id) (omega (arith, n .least)), le-leb (0x40 + i .id) 0x48 (omega (arith, n .most)), k)
-
-  sent-source : getD sent 3 0 - 0x40 ≡ i .id
-  unfolding packet
-  sent-source = omega arith
-
-  sent-kind : getD sent 4 0 ≡ kind
-  unfolding packet
-  sent-kind = refl
-
-  sent-whole : 2 ≤ length text → length text ≤ 62 → isWholeLength sent ≡ true
-  unfolding isWholeLength
-  sent-whole least most =
-      let a = addressOf (i .id) in
-      rw (packet-limits zeroByte a kind text least most, eq-eqb (size sent) (length sent) (size-packet zeroByte a kind text most ∙ sym (packet-length zeroByte a kind text)))
-
 module _ (i : Identity) (n : Named i) (r : Reply) (h : IsReply r) where
   pub reply-read : readPacket (replyFrom i r) ≡ station.reply (i .id) r
-  unfolding readPacket replyVerdict replyInMessage replyWith
-  reply-read =
-      let a = addressOf (i .id) in
-      let kind = replyType r in
-      let text = replyText r in
-      let l = reply-length r h in
-      rw (
-        le-ltb (length (replyPacket a kind text)) 13 (omega (arith, packet-length zeroByte a kind text)),
-        sent-header i n kind text (reply-type r),
-        sent-whole i n kind text (l .0) (l .1),
-        packet-returns zeroByte a kind text (l .1),
-        packet-checks zeroByte a kind text (l .1),
-        packet-message zeroByte a kind text (l .1),
-        sent-source i n kind text,
-        sent-kind i n kind text,
-        text-packet zeroByte a kind text (l .1),
-        reply-back r h,
-      )
+  unfolding replyWith
+  reply-read = spelt-read (i .id) r (n .least) (n .most) h (replyFrom i r) (reply-written (addressOf (i .id)) r)
 
   pub reply-is-read : (lent : List ℕ) → IsRead (i .id) (length (replyFrom i r)) r lent (over (replyFrom i r) lent)
   unfolding over

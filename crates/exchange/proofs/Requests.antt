@@ -1,5 +1,5 @@
--- A request that the station writes, given to a board that it addresses, does what the request says: the text in its packet is read back as that request.
-use mathlib.Core.Path.{_≡_, refl, sym, subst}
+-- A packet that spells a request which the station writes, given to a board that it addresses, does what the request says: its text is read as that request.
+use mathlib.Core.Path.{_≡_, refl, sym, ap, _∙_, subst}
 use mathlib.Core.Bool.{Bool, true, _&&_}
 use mathlib.Core.List.{List, _++_}
 use mathlib.Core.Option.{Option, none, some}
@@ -8,13 +8,17 @@ use native.Mathlib.Omega.{arith}
 use borrow.Author.Tests.{eq-eqb, ne-eqb}
 use lib.Dec.{ltb, leb}
 use lib.ListN.{length, getD}
-use Rattle.wire.specs.Packet.{addressOf, allAddress, zeroByte, packet, requestPacket, packetText}
+use Rattle.wire.specs.Digits.{two, SameDigits}
+use Rattle.wire.specs.Packet.{addressOf, allAddress, zeroByte, packetWith, packet, requestPacket, packetText}
 use Rattle.wire.proofs.Tests.{cond-by}
+use Rattle.wire.proofs.CaseLaws.{same-length}
 use Rattle.wire.proofs.PacketLaws.{packet-length, text-packet}
 use Rattle.messages.specs.Message.{Request, IsRequest}
 use Rattle.messages.specs.Text.{requestType, requestText}
 use Rattle.messages.specs.Read.{requestIn}
-use Rattle.messages.proofs.RoundTrips.{request-back, request-type, request-length}
+use Rattle.messages.specs.Spelling.{SpellsRequest, SpeltRequest}
+use Rattle.messages.proofs.RoundTrips.{request-type, request-length}
+use Rattle.messages.proofs.SpellingLaws.{request-spelt, request-written}
 use Rattle.calls.specs.Board.{Identity}
 use Rattle.calls.specs.Lists.{run}
 use Rattle.actions.specs.Act.{effect}
@@ -51,55 +55,83 @@ module _ (kind : ℕ) (text p : List ℕ) where
   sent room dest good =
       cond-by (λ (x : Encoding). x ≡ sends p → Sent (addressIn dest) good kind text p) (ltb room 64) _ _ (λ _. refusal-sends-none 10) (λ _. sent-to (addressIn dest) good)
 
+-- its destination stands in the packet
+sent-to-address : {address : Option ℕ} {good : Bool} {kind : ℕ} {text p : List ℕ} (x : Sent address good kind text p) → getD p 2 0 ≡ x .to
+unfolding packet packetWith
+sent-to-address x = rw (x .is)
+
 -- ---- what a packet does at a board that it addresses
 
-module _ (i : Identity) (m lent : List ℕ) (kind : ℕ) (text : List ℕ) (most : length text ≤ 62) where
-  effect-back : (a : ℕ)
-      → effect i m (requestIn (getD (requestPacket a kind text) 4 0) (packetText (requestPacket a kind text))) ≡ effect i m (requestIn kind text)
-  unfolding packet
-  effect-back a = rw (text-packet a zeroByte kind text most)
+module _ (i : Identity) (m lent : List ℕ) (kind : ℕ) (digits text : List ℕ) (counted : SameDigits (two (length text + 2)) digits) (most : length text ≤ 62) where
+  abbrev packetTo : ℕ → List ℕ
+  packetTo a = packetWith a zeroByte kind digits text
 
-  pub own-done : onPacket i m (requestPacket (addressOf (i .id)) kind text) lent ≡ toOwn i (effect i m (requestIn kind text)) lent
-  unfolding onPacket onPacketTo addressee packet
+  effect-back : (a : ℕ) → effect i m (requestIn (getD (packetTo a) 4 0) (packetText (packetTo a))) ≡ effect i m (requestIn kind text)
+  unfolding packetWith
+  effect-back a = rw (text-packet a zeroByte kind digits text counted most)
+
+  pub own-done : onPacket i m (packetTo (addressOf (i .id))) lent ≡ toOwn i (effect i m (requestIn kind text)) lent
+  unfolding onPacket onPacketTo addressee packetWith
   own-done = rw (eq-eqb (addressOf (i .id)) (addressOf (i .id)) refl, effect-back (addressOf (i .id)))
 
-  pub all-done : onPacket i m (requestPacket allAddress kind text) lent ≡ toAll i (effect i m (requestIn kind text)) lent
-  unfolding onPacket onPacketTo addressee packet
+  pub all-done : onPacket i m (packetTo allAddress) lent ≡ toAll i (effect i m (requestIn kind text)) lent
+  unfolding onPacket onPacketTo addressee packetWith
   all-done = rw (ne-eqb allAddress (addressOf (i .id)) (λ q. omega arith), effect-back allAddress)
 
-module _ (i : Identity) (m lent : List ℕ) (r : Request) (h : IsRequest r) where
-  abbrev packetTo : ℕ → List ℕ
-  packetTo a = requestPacket a (requestType r) (requestText r)
+-- ---- every request, in every spelling
 
-  packet-done : (dest : Destination) (a : ℕ) → Addresses dest i → addressIn dest ≡ some a → onPacket i m (packetTo a) lent ≡ done dest i m r lent
-  packet-done (Destination.Id n) a to =
-      cond-by (λ (x : Option ℕ). x ≡ some a → onPacket i m (packetTo a) lent ≡ done (Destination.Id n) i m r lent) (leb 1 n && leb n 8) _ _
-      (λ _ e. let is : a ≡ addressOf (i .id) = cc in
-      rw (is, own-done i m lent (requestType r) (requestText r) (request-length r h .1), request-back r h)) (λ _ e. cc)
-  packet-done Destination.All a to = λ e.
-      let is : a ≡ allAddress = cc in
-      rw (is, all-done i m lent (requestType r) (requestText r) (request-length r h .1), request-back r h)
+module _ (r : Request) (h : IsRequest r) (digits text : List ℕ) (counted : SameDigits (two (length text + 2)) digits) (said : SpellsRequest r text) where
+  abbrev kind : ℕ
+  kind = requestType r
 
--- ---- every request
+  spelt-length : (2 ≤ length text) × (length text ≤ 62)
+  spelt-length =
+      let e = same-length (requestText r) text (said .digits) in
+      let l = request-length r h in
+      (omega (arith, l .0), omega (arith, l .1))
 
-module _ (dest : Destination) (r : Request) (s : BoardState) (m : List ℕ) (lent : ℕ → List ℕ) (es : Events) where
-  abbrev Does : List ℕ → Type 0
-  Does p = run boardKind (s .ident) s m (byteCalls lent 0 p ++ es)
-      ≡ waits lent m 0 (length p - 1) ++ seenThen (s .ident) m (done dest (s .ident) m r (lent (length p - 1))) es
+  module _ (i : Identity) (m lent : List ℕ) where
+    packet-done : (dest : Destination) (a : ℕ) → Addresses dest i → addressIn dest ≡ some a
+        → onPacket i m (packetWith a zeroByte kind digits text) lent ≡ done dest i m r lent
+    packet-done (Destination.Id n) a to =
+        cond-by (λ (x : Option ℕ). x ≡ some a → onPacket i m (packetWith a zeroByte kind digits text) lent ≡ done (Destination.Id n) i m r lent) (leb 1 n && leb n 8) _ _
+        (λ _ e. let is : a ≡ addressOf (i .id) = cc in
+        rw (is, own-done i m lent kind digits text counted (spelt-length .1), request-spelt r text h said)) (λ _ e. cc)
+    packet-done Destination.All a to = λ e.
+        let is : a ≡ allAddress = cc in
+        rw (is, all-done i m lent kind digits text counted (spelt-length .1), request-spelt r text h said)
 
-  packet-does : (a : ℕ) → IsRequest r → addressIn dest ≡ some a → Idle s m → Addresses dest (s .ident) → ((k : ℕ) → 64 ≤ length (lent k))
-      → Does (requestPacket a (requestType r) (requestText r))
-  packet-does a h known idle to big =
-      let text = requestText r in
-      let l : length (requestPacket a (requestType r) text) - 1 ≡ length text + 10 = rw packet-length (omega arith) in
-      rw (l, ← packet-done (s .ident) m (lent (length text + 10)) r h dest a to known)
-      (packet-fed s m lent a (requestType r) text es (idle .sound) (idle .resting) (idle .empty) big (request-type r) (request-length r h .0) (request-length r h .1))
+  module _ (dest : Destination) (s : BoardState) (m : List ℕ) (lent : ℕ → List ℕ) (es : Events) where
+    abbrev Does : List ℕ → Type 0
+    Does p = run boardKind (s .ident) s m (byteCalls lent 0 p ++ es)
+        ≡ waits lent m 0 (length p - 1) ++ seenThen (s .ident) m (done dest (s .ident) m r (lent (length p - 1))) es
 
+    packet-does : (a : ℕ) → addressIn dest ≡ some a → Idle s m → Addresses dest (s .ident) → ((k : ℕ) → 64 ≤ length (lent k))
+        → Does (packetWith a zeroByte kind digits text)
+    packet-does a known idle to big =
+        let l : length (packetWith a zeroByte kind digits text) - 1 ≡ length text + 10 = rw (packet-length a zeroByte kind digits text counted) (omega arith) in
+        rw (l, ← packet-done (s .ident) m (lent (length text + 10)) dest a to known)
+        (packet-fed s m lent a kind digits text es (idle .sound) (idle .resting) (idle .empty) big counted (request-type r) (spelt-length .0) (spelt-length .1))
+
+pub any-case : (dest : Destination) (r : Request) (room : ℕ) (p q : List ℕ) → IsRequest r → encoding room dest r ≡ sends p → SpeltRequest (getD p 2 0) r q
+    → (s : BoardState) (m : List ℕ) → Idle s m → Addresses dest (s .ident)
+    → (lent : ℕ → List ℕ) → ((k : ℕ) → 64 ≤ length (lent k)) → (es : Events)
+    → run boardKind (s .ident) s m (byteCalls lent 0 q ++ es)
+    ≡ waits lent m 0 (length q - 1) ++ seenThen (s .ident) m (done dest (s .ident) m r (lent (length q - 1))) es
+any-case dest r room p q h e spelt s m idle to lent big es =
+    let x = sent (requestType r) (requestText r) p room dest _ e in
+    let known = x .known ∙ ap some (sym (sent-to-address x)) in
+    let digits = spelt .digits in
+    let text = spelt .text in
+    subst (Does r h digits text (spelt .counted) (spelt .said) dest s m lent es) (sym (spelt .whole))
+    (packet-does r h digits text (spelt .counted) (spelt .said) dest s m lent es (getD p 2 0) known idle to big)
+
+-- what it writes is a spelling too
 pub requests : (dest : Destination) (r : Request) (room : ℕ) (p : List ℕ) → IsRequest r → encoding room dest r ≡ sends p
     → (s : BoardState) (m : List ℕ) → Idle s m → Addresses dest (s .ident)
     → (lent : ℕ → List ℕ) → ((k : ℕ) → 64 ≤ length (lent k)) → (es : Events)
     → run boardKind (s .ident) s m (byteCalls lent 0 p ++ es)
     ≡ waits lent m 0 (length p - 1) ++ seenThen (s .ident) m (done dest (s .ident) m r (lent (length p - 1))) es
-requests dest r room p h e s m idle to lent big es =
+requests dest r room p h e =
     let x = sent (requestType r) (requestText r) p room dest _ e in
-    subst (Does dest r s m lent es) (sym (x .is)) (packet-does dest r s m lent es (x .to) h (x .known) idle to big)
+    any-case dest r room p p h e (rw (sent-to-address x) (subst (SpeltRequest (x .to) r) (sym (x .is)) (request-written (x .to) r)))

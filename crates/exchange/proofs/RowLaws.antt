@@ -4,8 +4,10 @@ use mathlib.Core.Bool.{true}
 use mathlib.Core.List.{List, [], _++_}
 use Prim.Native.Nat.{ℕ, _+_, _≤_}
 use lib.ListN.{length}
-use Rattle.wire.specs.Packet.{addressOf, allAddress, requestPacket}
+use Rattle.wire.specs.Digits.{two, SameDigits}
+use Rattle.wire.specs.Packet.{addressOf, allAddress, zeroByte, packetWith}
 use Rattle.wire.specs.Judge.{isRequestType}
+use Rattle.wire.proofs.PacketLaws.{written-counted}
 use Rattle.plan.specs.Stores.{Entry, applied}
 use Rattle.messages.specs.Message.{Request, Reply, IsRequest, IsReply}
 use Rattle.messages.specs.Text.{requestType, requestText}
@@ -35,30 +37,31 @@ module _ (i : Identity) (m : List ℕ) (idle : Idle (holding i []) m) where
 
   -- ---- a packet
 
-  module _ (kind : ℕ) (text : List ℕ) (request : isRequestType kind ≡ true) (least : 2 ≤ length text) (most : length text ≤ 62) where
+  module _ (kind : ℕ) (digits text : List ℕ) (counted : SameDigits (two (length text + 2)) digits)
+      (request : isRequestType kind ≡ true) (least : 2 ≤ length text) (most : length text ≤ 62) where
     module _ (lent : ℕ → List ℕ) (room : (k : ℕ) → 64 ≤ length (lent k)) (later : Events) where
       -- what is seen of it, sent to an address: waiting, an outcome on its last byte, and the rest
       abbrev Seen : ℕ → BoardOutcome → Type 0
-      Seen a o = run boardKind i (holding i []) m (byteCalls lent 0 (requestPacket a kind text) ++ later)
+      Seen a o = run boardKind i (holding i []) m (byteCalls lent 0 (packetWith a zeroByte kind digits text) ++ later)
           ≡ waits lent m 0 (length text + 10) ++ seenThen i m o later
 
-      packet-seen : (a : ℕ) {o : BoardOutcome} → onPacket i m (requestPacket a kind text) (lent (length text + 10)) ≡ o → Seen a o
+      packet-seen : (a : ℕ) {o : BoardOutcome} → onPacket i m (packetWith a zeroByte kind digits text) (lent (length text + 10)) ≡ o → Seen a o
       packet-seen a e =
-          packet-fed (holding i []) m lent a kind text later (idle .sound) refl refl room request least most
+          packet-fed (holding i []) m lent a kind digits text later (idle .sound) refl refl room counted request least most
           ∙ ap (λ (o : BoardOutcome). waits lent m 0 (length text + 10) ++ seenThen i m o later) e
 
       pub own-seen : {x : Effect} → effect i m (requestIn kind text) ≡ x → Seen (addressOf (i .id)) (toOwn i x (lent (length text + 10)))
       own-seen is =
           let last = lent (length text + 10) in
-          packet-seen (addressOf (i .id)) (own-done i m last kind text most ∙ ap (λ (x : Effect). toOwn i x last) is)
+          packet-seen (addressOf (i .id)) (own-done i m last kind digits text counted most ∙ ap (λ (x : Effect). toOwn i x last) is)
 
       pub all-seen : {x : Effect} → effect i m (requestIn kind text) ≡ x → Seen allAddress (toAll i x (lent (length text + 10)))
       all-seen is =
           let last = lent (length text + 10) in
-          packet-seen allAddress (all-done i m last kind text most ∙ ap (λ (x : Effect). toAll i x last) is)
+          packet-seen allAddress (all-done i m last kind digits text counted most ∙ ap (λ (x : Effect). toAll i x last) is)
 
     pub exchanged : {x : Reply} {es : List Entry} → effect i m (requestIn kind text) ≡ replies x es → IsReply x
-        → Exchange i m kind text x (applied es m)
+        → Exchange i m kind digits text x (applied es m)
     unfolding seen toOwn toAll
     exchanged {x} is h =
         let keeps = effect-keeps i m kind text (rest .size) (rest .ranged) is in
@@ -77,7 +80,9 @@ module _ (i : Identity) (m : List ℕ) (idle : Idle (holding i []) m) where
 
   pub asks : (r : Request) {x : Reply} {es : List Entry} → IsRequest r → effectOf i m r ≡ replies x es → IsReply x → Asks i m r x (applied es m)
   asks r h is y =
-      exchanged (requestType r) (requestText r) (request-type r) (request-length r h .0) (request-length r h .1) (request-effect r h is) y
+      let text = requestText r in
+      exchanged (requestType r) (two (length text + 2)) text (written-counted text) (request-type r) (request-length r h .0) (request-length r h .1)
+      (request-effect r h is) y
 
   -- one that stores nothing
   pub shows : (r : Request) {x : Reply} → IsRequest r → effectOf i m r ≡ says x → IsReply x → Shows i m r x
@@ -88,9 +93,11 @@ module _ (i : Identity) (m : List ℕ) (ready : Ready i m) where
   sayable : (kind : ℕ) (text : List ℕ) {x : Reply} {es : List Entry} → effect i m (requestIn kind text) ≡ replies x es → IsReply x
   sayable kind text is = effect-sayable i m (ready .in-bytes) (named i m (ready .rests)) (rest i m (ready .rests) .ranged) kind text is
 
-  pub ready-exchanged : (kind : ℕ) (text : List ℕ) {x : Reply} {es : List Entry} → isRequestType kind ≡ true → 2 ≤ length text → length text ≤ 62
-      → effect i m (requestIn kind text) ≡ replies x es → Exchange i m kind text x (applied es m)
-  ready-exchanged kind text request least most is = exchanged i m (ready .rests) kind text request least most is (sayable kind text is)
+  pub ready-exchanged : (kind : ℕ) (digits text : List ℕ) {x : Reply} {es : List Entry} → SameDigits (two (length text + 2)) digits
+      → isRequestType kind ≡ true → 2 ≤ length text → length text ≤ 62
+      → effect i m (requestIn kind text) ≡ replies x es → Exchange i m kind digits text x (applied es m)
+  ready-exchanged kind digits text counted request least most is =
+      exchanged i m (ready .rests) kind digits text counted request least most is (sayable kind text is)
 
   pub ready-sayable : (r : Request) {x : Reply} {es : List Entry} → IsRequest r → effectOf i m r ≡ replies x es → IsReply x
   ready-sayable r h is = sayable (requestType r) (requestText r) (request-effect i m (ready .rests) r h is)

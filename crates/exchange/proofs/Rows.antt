@@ -46,6 +46,6 @@ rows i m ready =
       tag-read = tag-read i m ready;
       former-read = former-read i m ready;
       tag-write = tag-write i m ready;
-      other = λ kind text request least most other.
-          ready-exchanged i m ready kind text request least most (ap (effect i m) (other-unread kind text other));
+      other = λ kind digits text counted request least most other.
+          ready-exchanged i m ready kind digits text counted request least most (ap (effect i m) (other-unread kind text other));
     }

@@ -1,16 +1,17 @@
--- DEMAND 2 of board and station together (docs/RULES.md, 'Demand 2', RT1 and RT2, the message table, AC1 to AC11, 'Schedules', S1 to S6, and 'Calendar', K1
+-- DEMAND 2 of board and station together (docs/RULES.md, 'Demand 2', RT1, RT2 and L3, the message table, AC1 to AC11, 'Schedules', S1 to S6, and 'Calendar', K1
 -- and K2).
 -- A request that the station writes is read by an idle board that it addresses as that request; a reply that a board writes is read by
--- the station with each value intact; and each row of the message table does what Rows.antt and ScheduleRows.antt say of it.
+-- the station with each value intact; both with digits in either case; and each row of the message table does what Rows.antt and ScheduleRows.antt say of it.
 use mathlib.Core.Bool.{true}
 use mathlib.Core.List.{List, [], _∷_, _++_}
 use mathlib.Core.Path.{_≡_}
-use Prim.Native.Nat.{ℕ, _-_, _≤_}
+use Prim.Native.Nat.{ℕ, _+_, _-_, _≤_}
 use lib.ListN.{length, getD, take, drop}
 use Rattle.wire.specs.Packet.{size, packetText}
-use Rattle.messages.specs.Message.{Request, Reply, IsRequest}
+use Rattle.messages.specs.Message.{Request, Reply, IsRequest, IsReply}
 use Rattle.messages.specs.Message.Reply.{setReply}
 use Rattle.messages.specs.Read.{requestIn}
+use Rattle.messages.specs.Spelling.{SpeltRequest, SpeltReply}
 use Rattle.messages.specs.declared.message.Date.{Date}
 use Rattle.calendar.specs.DayByDay.{InDays}
 use Rattle.calls.specs.Board.{Identity, reply}
@@ -63,12 +64,21 @@ pub record Demand2 : Type 0 where
       → (lent : ℕ → List ℕ) → ((k : ℕ) → 64 ≤ length (lent k)) → (es : Events)
       → run boardKind (s .ident) s m (byteCalls lent 0 p ++ es)
       ≡ waits lent m 0 (length p - 1) ++ seenThen (s .ident) m (done dest (s .ident) m r (lent (length p - 1))) es
+  -- and every packet that spells it: length and message digits in either case, names as they are written, and the check code of its own bytes
+  pub any-case : (dest : Destination) (r : Request) (room : ℕ) (p q : List ℕ) → IsRequest r → encoding room dest r ≡ sends p → SpeltRequest (getD p 2 0) r q
+      → (s : BoardState) (m : List ℕ) → Idle s m → Addresses dest (s .ident)
+      → (lent : ℕ → List ℕ) → ((k : ℕ) → 64 ≤ length (lent k)) → (es : Events)
+      → run boardKind (s .ident) s m (byteCalls lent 0 q ++ es)
+      ≡ waits lent m 0 (length q - 1) ++ seenThen (s .ident) m (done dest (s .ident) m r (lent (length q - 1))) es
   -- every reply that a board gives on a byte
   pub replies-read : (b : ℕ) (s : BoardState) (m lent : List ℕ) (n : ℕ) → InBytes (s .ident) m → onCall boardKind (byte b) s m lent .answer ≡ reply n
       → RepliesTo (s .ident) m (s .held ++ (b ∷ [])) n lent (onCall boardKind (byte b) s m lent)
   -- and on the last step of an erase
   pub erase-read : (s : BoardState) (m lent : List ℕ) (n : ℕ) → onStep boardKind s m lent .answer ≡ reply n
       → IsRead (s .ident .id) n (setReply 0 0xF0 0x01 1 1 1) lent (onStep boardKind s m lent .buffer)
+  -- every packet that spells a reply is read as that reply
+  pub replies-any-case : (id : ℕ) (r : Reply) (p : List ℕ) → 1 ≤ id → id ≤ 8 → IsReply r → SpeltReply (0x40 + id) r p
+      → station.readPacket p ≡ station.reply id r
   -- each row of the message table, and those of the schedules
   pub rows : (i : Identity) (m : List ℕ) → Ready i m → Rows i m
   pub schedule-rows : (i : Identity) (m : List ℕ) → Ready i m → ScheduleRows i m

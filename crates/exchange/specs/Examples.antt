@@ -9,6 +9,7 @@ use lib.ListN.{length, take, drop, set}
 use Rattle.wire.specs.Packet.{over}
 use Rattle.messages.specs.Message.{Request}
 use Rattle.messages.specs.Message.Request.{getParameter, setParameter, powerControl}
+use Rattle.messages.specs.Spelling.{SpeltRequest}
 use Rattle.calls.specs.Board.{Identity, Answer, silent, begun, reply, idle, pending}
 use Rattle.calls.specs.Lists.{step, answered, run}
 use Rattle.layouts.specs.Layouts.{unusedStore}
@@ -42,6 +43,8 @@ pub data Example : Type 0 where
   erases : (bytes : List ℕ) → Example
   -- an unused board stores these in bytes 1 to 11
   stores : (bytes : List ℕ) → Example
+  -- a packet to ID 1 spells a request
+  spells : Request → (packet : List ℕ) → Example
 
 -- what is seen of a packet, with any good buffers: waiting, and with the last byte an answer, a buffer and a store
 abbrev pub Seen : (store packet : List ℕ) → Answer ℕ → (List ℕ → List ℕ) → List ℕ → Type 0
@@ -59,6 +62,7 @@ Holds (erases bytes) =
     (lent : List ℕ) → 64 ≤ length lent
     → run boardKind one atLastPlace (set unusedBytes 0 0xE7) (step lent ∷ []) ≡ answered (reply (length bytes)) (over bytes lent) unusedBytes ∷ []
 Holds (stores bytes) = take 11 (drop 1 unusedStore) ≡ bytes
+Holds (spells r packet) = SpeltRequest 0x41 r packet
 
 unfoldable pub AllHold : List Example → Type 0
 AllHold [] = Unit {0}
@@ -364,6 +368,40 @@ enableSeven = 0x01 ∷ 0x30 ∷ 0x41 ∷ 0x30 ∷ 0x41 ∷ 0x30 ∷ 0x41 ∷ 0x0
 abbrev pub sevenRefused : List ℕ
 sevenRefused = 0x01 ∷ 0x30 ∷ 0x30 ∷ 0x41 ∷ 0x42 ∷ 0x30 ∷ 0x43 ∷ 0x02 ∷ 0x43 ∷ 0x33 ∷ 0x31 ∷ 0x35 ∷ 0x30 ∷ 0x31 ∷ 0x30 ∷ 0x37 ∷ 0x30 ∷ 0x31 ∷ 0x03 ∷ 0x02 ∷ 0x0D ∷ []
 
+-- ---- digits in small letters
+
+-- P1 with its length as 0a
+abbrev pub p1Small : List ℕ
+p1Small = 0x01 ∷ 0x30 ∷ 0x41 ∷ 0x30 ∷ 0x45 ∷ 0x30 ∷ 0x61 ∷ 0x02 ∷ 0x30 ∷ 0x30 ∷ 0x31 ∷ 0x30 ∷ 0x30 ∷ 0x30 ∷ 0x36 ∷ 0x34 ∷ 0x03 ∷ 0x57 ∷ 0x0D ∷ []
+
+-- Set backlight 75 with its value as 004b, and its reply, which shows 004B
+abbrev pub set75 : List ℕ
+set75 = 0x01 ∷ 0x30 ∷ 0x41 ∷ 0x30 ∷ 0x45 ∷ 0x30 ∷ 0x41 ∷ 0x02 ∷ 0x30 ∷ 0x30 ∷ 0x31 ∷ 0x30 ∷ 0x30 ∷ 0x30 ∷ 0x34 ∷ 0x62 ∷ 0x03 ∷ 0x23 ∷ 0x0D ∷ []
+
+abbrev pub shown75 : List ℕ
+shown75 =
+    0x01 ∷ 0x30 ∷ 0x30 ∷ 0x41 ∷ 0x46 ∷ 0x31 ∷ 0x32 ∷ 0x02 ∷ 0x30 ∷ 0x30 ∷ 0x30 ∷ 0x30 ∷ 0x31 ∷ 0x30 ∷ 0x30 ∷ 0x30
+    ∷ 0x30 ∷ 0x30 ∷ 0x36 ∷ 0x34 ∷ 0x30 ∷ 0x30 ∷ 0x34 ∷ 0x42 ∷ 0x03 ∷ 0x70 ∷ 0x0D ∷ []
+
+-- the erase request with its page as f0
+abbrev pub eraseSmall : List ℕ
+eraseSmall = 0x01 ∷ 0x30 ∷ 0x41 ∷ 0x30 ∷ 0x45 ∷ 0x30 ∷ 0x41 ∷ 0x02 ∷ 0x66 ∷ 0x30 ∷ 0x30 ∷ 0x31 ∷ 0x30 ∷ 0x30 ∷ 0x30 ∷ 0x31 ∷ 0x03 ∷ 0x22 ∷ 0x0D ∷ []
+
+-- the name of the tag read as f010, which is no name and gets NULL
+abbrev pub askTagSmall : List ℕ
+askTagSmall = 0x01 ∷ 0x30 ∷ 0x41 ∷ 0x30 ∷ 0x41 ∷ 0x30 ∷ 0x36 ∷ 0x02 ∷ 0x66 ∷ 0x30 ∷ 0x31 ∷ 0x30 ∷ 0x03 ∷ 0x50 ∷ 0x0D ∷ []
+
+-- the write of the tag 6Dh 4Ah as 6d4A, and its reply
+abbrev pub writeTagSmall : List ℕ
+writeTagSmall = 0x01 ∷ 0x30 ∷ 0x41 ∷ 0x30 ∷ 0x41 ∷ 0x30 ∷ 0x41 ∷ 0x02 ∷ 0x46 ∷ 0x30 ∷ 0x31 ∷ 0x31 ∷ 0x36 ∷ 0x64 ∷ 0x34 ∷ 0x41 ∷ 0x03 ∷ 0x21 ∷ 0x0D ∷ []
+
+abbrev pub tagSmallWritten : List ℕ
+tagSmallWritten =
+    0x01 ∷ 0x30 ∷ 0x30 ∷ 0x41 ∷ 0x42 ∷ 0x30 ∷ 0x43 ∷ 0x02 ∷ 0x46 ∷ 0x31 ∷ 0x31 ∷ 0x31 ∷ 0x30 ∷ 0x30 ∷ 0x36 ∷ 0x44
+    ∷ 0x34 ∷ 0x41 ∷ 0x03 ∷ 0x01 ∷ 0x0D ∷ []
+
+-- ---- stores
+
 -- the tag AB and the former tag C: bytes 10 and 11 hold their lengths
 abbrev pub tagged : List ℕ
 tagged = set (set (set (set (set unusedBytes 10 0x01) 11 0x04) 12 0x41) 13 0x42) 28 0x43
@@ -371,6 +409,10 @@ tagged = set (set (set (set (set unusedBytes 10 0x01) 11 0x04) 12 0x41) 13 0x42)
 -- after a write of D: it is the tag, and AB the former one
 abbrev pub retagged : List ℕ
 retagged = set (set (set (set (set unusedBytes 10 0x00) 11 0x88) 12 0x44) 28 0x41) 29 0x42
+
+-- after the write of 6Dh 4Ah to a board without a tag
+abbrev pub taggedSmall : List ℕ
+taggedSmall = set (set (set unusedBytes 10 0x01) 12 0x6D) 13 0x4A
 
 -- after the date write
 abbrev pub dated : List ℕ
@@ -412,4 +454,12 @@ rowExamples =
     ∷ replies programmed writeLate lateRefused programmed
     ∷ replies programmed askSeven p8 programmed
     ∷ replies programmed enableSeven sevenRefused programmed
+    ∷ spells (setParameter 0x00 0x10 100) p1Small
+    ∷ replies unusedBytes p1Small p1Reply (set unusedBytes 1 0xC8)
+    ∷ spells (setParameter 0x00 0x10 75) set75
+    ∷ replies unusedBytes set75 shown75 (set unusedBytes 1 0x96)
+    ∷ spells (setParameter 0xF0 0x01 1) eraseSmall
+    ∷ begins unusedBytes eraseSmall (set unusedBytes 0 0xE7)
+    ∷ replies unusedBytes askTagSmall p8 unusedBytes
+    ∷ replies unusedBytes writeTagSmall tagSmallWritten taggedSmall
     ∷ []

@@ -9,8 +9,8 @@ use Prim.Native.Nat.{ℕ, _+_, _-_, _≤_, _<_}
 use lib.Dec.{leb, ltb, eqb}
 use lib.ListN.{length, set, take, drop, replicate}
 use Rattle.bitfield.specs.Field.{bit, getField}
-use Rattle.wire.specs.Digits.{Bytes}
-use Rattle.wire.specs.Packet.{requestPacket, over}
+use Rattle.wire.specs.Digits.{Bytes, two, SameDigits}
+use Rattle.wire.specs.Packet.{packetWith, requestPacket, over}
 use Rattle.wire.specs.Judge.{isRequestType}
 use Rattle.messages.specs.Message.{ScheduleRequest, ScheduleReply, Request, Reply, IsRequest, IsItem, IsDate}
 use Rattle.messages.specs.Message.ScheduleRequest.{scheduleRead, scheduleWrite, scheduleEnable}
@@ -18,6 +18,7 @@ use Rattle.messages.specs.Message.ScheduleReply.{scheduleReadReply, scheduleWri
 use Rattle.messages.specs.Message.Request.{getParameter, setParameter, powerRead, powerControl, dateRead, dateWrite, itemRead, tagWrite, schedule}
 use Rattle.messages.specs.Message.Reply.{null, getReply, setReply, powerReadReply, powerControlReply, dateReadReply, dateWriteReply, itemReply, tagWriteReply, scheduleReply}
 use Rattle.messages.specs.Text.{requestType, requestText}
+use Rattle.messages.specs.Spelling.{SpellsRequest}
 use Rattle.messages.specs.declared.message.Date.{Date}
 use Rattle.messages.specs.declared.message.Item.{Item}
 use Rattle.calendar.specs.Calendar.{daysIn, weekdayOf}
@@ -51,23 +52,23 @@ pub record Ready (i : Identity) (m : List ℕ) : Type 0 where
 
 -- ---- a packet and its reply
 
--- A packet of a type with a text, given whole to an idle board with lent buffers of 64 bytes or more, is waited on up to its last byte. Sent to the
--- board's ID it then gets a reply, in which the station reads x from that ID; to ALL it gets none. Either way the store is m′, and the board idle.
-pub record Exchange (i : Identity) (m : List ℕ) (kind : ℕ) (text : List ℕ) (x : Reply) (m′ : List ℕ) : Type 0 where
+-- A packet of a type with length digits and a text, given whole to an idle board with lent buffers of 64 bytes or more, is waited on up to its last byte.
+-- Sent to the board's ID it then gets a reply, in which the station reads x from that ID; to ALL it gets none. Either way the store is m′, and the board idle.
+pub record Exchange (i : Identity) (m : List ℕ) (kind : ℕ) (digits text : List ℕ) (x : Reply) (m′ : List ℕ) : Type 0 where
   pub sent : List ℕ
   pub replied : (lent : ℕ → List ℕ) → ((k : ℕ) → 64 ≤ length (lent k)) → (es : Events)
-      → run boardKind i (holding i []) m (byteCalls lent 0 (requestPacket (0x40 + i .id) kind text) ++ es)
+      → run boardKind i (holding i []) m (byteCalls lent 0 (packetWith (0x40 + i .id) 0x30 kind digits text) ++ es)
       ≡ waits lent m 0 (length text + 10)
       ++ (answered (reply (length sent)) (over sent (lent (length text + 10))) m′ ∷ run boardKind i (holding i []) m′ es)
   pub read : station.readPacket sent ≡ station.reply (i .id) x
   pub silently : (lent : ℕ → List ℕ) → ((k : ℕ) → 64 ≤ length (lent k)) → (es : Events)
-      → run boardKind i (holding i []) m (byteCalls lent 0 (requestPacket 0x2A kind text) ++ es)
+      → run boardKind i (holding i []) m (byteCalls lent 0 (packetWith 0x2A 0x30 kind digits text) ++ es)
       ≡ waits lent m 0 (length text + 10) ++ (answered silent (lent (length text + 10)) m′ ∷ run boardKind i (holding i []) m′ es)
   pub rests : Idle (holding i []) m′
 
--- a request gets x and leaves m′; a request shows x and changes nothing
+-- a request, as it is written, gets x and leaves m′; it shows x and changes nothing
 abbrev pub Asks : Identity → List ℕ → Request → Reply → List ℕ → Type 0
-Asks i m r x m′ = Exchange i m (requestType r) (requestText r) x m′
+Asks i m r x m′ = Exchange i m (requestType r) (two (length (requestText r) + 2)) (requestText r) x m′
 
 abbrev pub Shows : Identity → List ℕ → Request → Reply → Type 0
 Shows i m r x = Asks i m r x m
@@ -269,9 +270,9 @@ pub record BeginsErase (i : Identity) (m : List ℕ) : Type 0 where
 
 -- ---- what is refused
 
--- the type and the text of no request
+-- the type of no request, or a text that spells none of this type
 abbrev pub IsOther : ℕ → List ℕ → Type 0
-IsOther kind text = (r : Request) → IsRequest r → (requestType r ≡ kind) × (requestText r ≡ text) → ⊥
+IsOther kind text = (r : Request) → IsRequest r → (requestType r ≡ kind) × SpellsRequest r text → ⊥
 
 -- result 01, status 01 or NULL
 abbrev pub isScheduleRefusal : ScheduleReply → Bool
@@ -331,9 +332,9 @@ pub record Rows (i : Identity) (m : List ℕ) : Type 0 where
   pub tag-read : Shows i m (itemRead Item.Tag) (itemReply Item.Tag (tagIn m))
   pub former-read : Shows i m (itemRead Item.FormerTag) (itemReply Item.FormerTag (formerTagIn m))
   pub tag-write : (tag : List ℕ) → IsItem tag → Changes i m (tagWrite tag) (tagWriteReply 0 tag) isTagRead mayChangeTags (TagsMoved i m tag)
-  -- what no request says
-  pub other : (kind : ℕ) (text : List ℕ) → isRequestType kind ≡ true → 2 ≤ length text → length text ≤ 62 → IsOther kind text
-      → Exchange i m kind text null m
+  -- what spells no request, its length in either case
+  pub other : (kind : ℕ) (digits text : List ℕ) → SameDigits (two (length text + 2)) digits → isRequestType kind ≡ true
+      → 2 ≤ length text → length text ≤ 62 → IsOther kind text → Exchange i m kind digits text null m
 
 -- of any board: a reply in which the station reads a refusal leaves every stored byte
 abbrev pub RefusalKeeps : Type 0

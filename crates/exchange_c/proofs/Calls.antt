@@ -9,9 +9,9 @@ use native.Mathlib.Omega.{arith}
 use borrow.Author.Tests.{leb-true, eqb-true, le-leb, lt-ltb, le-ltb, ne-eqb}
 use lib.Dec.{leb, eqb}
 use lib.ListN.{length, getD}
-use Rattle.wire.specs.Packet.{zeroByte, packet, requestPacket, packetText}
+use Rattle.wire.specs.Packet.{zeroByte, packetWith, packet, requestPacket, packetText}
 use Rattle.wire.proofs.Tests.{cond-by}
-use Rattle.wire.proofs.PacketLaws.{packet-length, text-packet}
+use Rattle.wire.proofs.PacketLaws.{written-length, written-text}
 use Rattle.messages.specs.Message.{Request, IsRequest}
 use Rattle.messages.specs.Message.ScheduleRequest.{scheduleRead, scheduleWrite, scheduleEnable}
 use Rattle.messages.specs.Message.Request.{getParameter, setParameter, powerRead, powerControl, dateRead, dateWrite, itemRead, tagWrite, schedule}
@@ -72,7 +72,7 @@ packetTo a c = requestPacket a (requestType (requestFor c)) (requestText (reques
 
 -- the place of its last byte
 pub packet-last : (a : ℕ) (c : Call) → length (packetTo a c) - 1 ≡ length (requestText (requestFor c)) + 10
-packet-last a c = rw (packet-length a zeroByte (requestType (requestFor c)) (requestText (requestFor c))) (omega arith)
+packet-last a c = rw (written-length a zeroByte (requestType (requestFor c)) (requestText (requestFor c))) (omega arith)
 
 pub encoded : (dest a : ℕ) (c : Call) → addressIn (destinationOf dest) ≡ some a → isTaken c ≡ true → Encoded dest c (packetTo a c)
 unfolding encodingOf
@@ -156,12 +156,12 @@ destination-back dest to =
 module _ (room dest : ℕ) (c : Call) (p : List ℕ) (h : IsPassed c) (e : encodingFor room dest c ≡ sends p) where
   -- the destination and the request are read from the packet
   encoded-back : (destinationAt (getD p 2 0) ≡ dest) × (requestIn (getD p 4 0) (packetText p) ≡ some (requestFor c))
-  unfolding packet
+  unfolding packet packetWith
   encoded-back =
       let r = requestFor c in
       let x = sent (requestType r) (requestText r) p room (destinationOf dest) _ e in
       let is = taken-request c h (sym (taken-as c) ∙ x .in-range) in
-      rw (x .is, text-packet (x .to) zeroByte (requestType r) (requestText r) (request-length r is .1))
+      rw (x .is, written-text (x .to) zeroByte (requestType r) (requestText r) (request-length r is .1))
       (destination-back dest (x .to) (x .known), request-back r is)
 
 pub arguments : (room room′ dest dest′ : ℕ) (c c′ : Call) (packet : List ℕ) → IsPassed c → IsPassed c′

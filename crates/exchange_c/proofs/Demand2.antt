@@ -2,7 +2,7 @@
 use Rattle.station_c.proofs.Listed.{listed-back}
 use Rattle.exchange_c.specs.Demand2.{Demand2C}
 use Rattle.exchange_c.proofs.Calls.{passed, arguments}
-use Rattle.exchange_c.proofs.Replies.{replies-told, told-replies}
+use Rattle.exchange_c.proofs.Replies.{replies-told, spelt-told, told-replies}
 use Rattle.exchange_c.proofs.Exchanged.{exchanged}
 use Rattle.exchange_c.proofs.Erase.{erased, erased-by-all}
 use Rattle.exchange_c.proofs.StoredBytes.{bytes-kept}
@@ -15,6 +15,7 @@ demand2 =
       arguments = arguments;
       listed-back = listed-back;
       replies-told = replies-told;
+      spelt-told = spelt-told;
       told-replies = told-replies;
       exchanged = exchanged;
       erased = erased;

@@ -10,6 +10,7 @@ use borrow.Author.Tests.{leb-true, eqb-true, eqb-false, le-leb, eq-eqb}
 use lib.Dec.{leb, eqb}
 use Rattle.bitfield.specs.Field.{getField}
 use Rattle.bitfield.proofs.Laws.{get-lt}
+use Rattle.wire.specs.Packet as wire
 use Rattle.wire.proofs.Tests.{cond-by, both}
 use Rattle.messages.specs.Message.{Request, Reply}
 use Rattle.messages.specs.Message.Reply.{getReply}
@@ -36,6 +37,7 @@ use Rattle.exchange_c.proofs.Told.{tellsOf, read-told}
 -- what a row says of a request's packet is said of the call's, and C is told the row's reply
 asked-by-id : (i : Identity) (m : List ℕ) (c : Call) {x : Reply} {left : List ℕ} → Ready i m → isTaken c ≡ true → Asks i m (requestFor c) x left
     → ById i m c (tellsOf (i .id) x) left
+unfolding wire.packet
 asked-by-id i m c {x} ready t e =
     record {
       packet = packetTo (0x40 + i .id) c;
@@ -55,6 +57,7 @@ record Asked (i : Identity) (m : List ℕ) (c : Call) (t : Told) : Type 0 where
   ready : Ready i left
 
 asked-exchanged : (i : Identity) (m : List ℕ) (c : Call) → Ready i m → isTaken c ≡ true → Asked i m c (tells i m c) → Exchanged i m c
+unfolding wire.packet
 asked-exchanged i m c ready t a =
     record {
       left = a .left;

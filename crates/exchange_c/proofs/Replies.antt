@@ -1,10 +1,9 @@
 -- A reply may hold what has a text, so that every such reply is told, and what is read is one.
 use mathlib.Core.Path.{_≡_}
 use mathlib.Core.Bool.{true, _||_}
-use mathlib.Core.List.{List, []}
+use mathlib.Core.List.{List}
 use mathlib.Core.Logic.{_⊎_, inl, inr, ⊎-elim}
 use Prim.Native.Nat.{ℕ, _+_, _≤_}
-use native.Mathlib.Omega.{arith}
 use borrow.Author.Tests.{eqb-true}
 use lib.Dec.{eqb}
 use Rattle.wire.specs.Packet.{replyPacket}
@@ -12,13 +11,14 @@ use Rattle.messages.specs.Message.{Reply, IsReply, IsDate, isPowerMode}
 use Rattle.messages.specs.Message.ScheduleReply.{scheduleReadReply, scheduleWriteReply, scheduleEnableReply}
 use Rattle.messages.specs.Message.Reply.{null, getReply, setReply, powerReadReply, powerControlReply, dateReadReply, dateWriteReply, itemReply, tagWriteReply, scheduleReply}
 use Rattle.messages.specs.Text.{replyType, replyText}
+use Rattle.messages.specs.Spelling.{SpeltReply}
 use Rattle.messages.specs.declared.message.Date.{Date}
+use Rattle.messages.proofs.SpellingLaws.{reply-written}
 use Rattle.store.proofs.Tables.{either}
-use Rattle.packets.specs.Packets.{replyWith}
 use Rattle.station.specs.Read as station
+use Rattle.station.proofs.ReadSpelt.{spelt-read}
 use Rattle.station_c.specs.Read.{readInto}
 use Rattle.station_c.proofs.Checks.{refusals}
-use Rattle.exchange.proofs.ReplyLaws.{reply-read}
 use Rattle.exchange_c.specs.Demand2.{IsTold, MayHoldDate, MayHold}
 use Rattle.exchange_c.proofs.Told.{tellsOf, read-told}
 
@@ -64,12 +64,12 @@ held (scheduleReply (scheduleReadReply numbers)) h = (h .sixteen, h .bytes)
 held (scheduleReply (scheduleWriteReply status numbers)) h = (h .0, (h .1 .sixteen, h .1 .bytes))
 held (scheduleReply (scheduleEnableReply status k enable)) h = h
 
+pub spelt-told : (id : ℕ) (r : Reply) (packet : List ℕ) → 1 ≤ id → id ≤ 8 → MayHold r → SpeltReply (0x40 + id) r packet → IsTold packet (tellsOf id r)
+spelt-told id r packet least most h spelt = read-told packet id r (spelt-read id r least most (fits r h) packet spelt)
+
 pub replies-told : (id : ℕ) (r : Reply) → 1 ≤ id → id ≤ 8 → MayHold r
     → IsTold (replyPacket (0x40 + id) (replyType r) (replyText r)) (tellsOf id r)
-unfolding replyWith
-replies-told id r least most h =
-    read-told (replyPacket (0x40 + id) (replyType r) (replyText r)) id r
-    (reply-read (record { id = id; serial = []; model = [] }) (record { least = least; most = most; serial = omega arith; model = omega arith }) r (fits r h))
+replies-told id r least most h = spelt-told id r (replyPacket (0x40 + id) (replyType r) (replyText r)) least most h (reply-written (0x40 + id) r)
 
 pub told-replies : (numbers bytes : ℕ) (packet : List ℕ) (id : ℕ) (r : Reply) → readInto numbers bytes packet ≡ station.reply id r → MayHold r
 told-replies numbers bytes packet id r e = held r (refusals .written numbers bytes packet id r e .0)

@@ -15,6 +15,7 @@ use Rattle.messages.specs.Message.{ScheduleReply, Reply, IsRequest, IsItem, rep
 use Rattle.messages.specs.Message.ScheduleReply.{scheduleReadReply, scheduleWriteReply, scheduleEnableReply}
 use Rattle.messages.specs.Message.Reply.{null, getReply, setReply, powerReadReply, powerControlReply, dateReadReply, dateWriteReply, itemReply, tagWriteReply, scheduleReply}
 use Rattle.messages.specs.Text.{replyType, replyText}
+use Rattle.messages.specs.Spelling.{SpeltReply}
 use Rattle.messages.specs.declared.message.Date.{Date}
 use Rattle.calls.specs.Board.{Identity, Answer, waiting, silent, begun, more, ended, reply}
 use Rattle.calls.specs.Lists.{step, answered, started, unstarted, run}
@@ -292,9 +293,11 @@ pub record Demand2C : Type 0 where
       → encodingFor room dest c ≡ sends packet → encodingFor room′ dest′ c′ ≡ sends packet → (dest ≡ dest′) × (c ≡ c′)
   -- a kind, numbers and bytes are those of one reply
   pub listed-back : (x y : Reply) → replyKind x ≡ replyKind y → numbersOf x ≡ numbersOf y → replyBytes x ≡ replyBytes y → x ≡ y
-  -- every reply that may be, from every monitor, is told with its values, and no other
+  -- every reply that may be, from every monitor, is told with its values, its digits in either case, and no other
   pub replies-told : (id : ℕ) (r : Reply) → 1 ≤ id → id ≤ 8 → MayHold r
       → IsTold (replyPacket (0x40 + id) (replyType r) (replyText r)) (told (replyKind r) (id ∷ numbersOf r) (replyBytes r))
+  pub spelt-told : (id : ℕ) (r : Reply) (packet : List ℕ) → 1 ≤ id → id ≤ 8 → MayHold r → SpeltReply (0x40 + id) r packet
+      → IsTold packet (told (replyKind r) (id ∷ numbersOf r) (replyBytes r))
   pub told-replies : (numbers bytes : ℕ) (packet : List ℕ) (id : ℕ) (r : Reply) → readInto numbers bytes packet ≡ station.reply id r → MayHold r
   -- every call but the erase's, to every board at rest
   pub exchanged : (i : Identity) (m : List ℕ) → Ready i m → (c : Call) → IsPassed c → isTaken c ≡ true → isEraseCall c ≡ false → Exchanged i m c

@@ -1,6 +1,8 @@
 pub mod WriteLaws
 pub mod RoundTrips
+pub mod SpellingLaws
 pub mod Vectors
+pub mod CaseVectors
 pub mod SendLaws
 pub mod ParseLaws
 pub mod WrittenBack

@@ -1,15 +1,16 @@
--- A text in which a reply is found is that reply's text: each field that was read is in range and, written again, gives back the bytes that it was read from.
+-- A text in which a reply is found spells it: each field that was read is in range and, written again, gives back the digits that it was read from, but for
+-- their case.
 use Prim.Native.Nat.{ℕ, _≤_}
 use mathlib.Core.Bool.{true, cond}
 use mathlib.Core.List.{List, []}
 use mathlib.Core.Option.{Option, some, Option·map}
-use mathlib.Core.Path.{_≡_, sym, refl, _∙_}
+use mathlib.Core.Path.{_≡_, sym, refl}
 use native.Mathlib.Omega.{arith}
 use borrow.Author.Tests.{leb-true, eqb-true}
 use lib.Dec.{leb, eqb}
 use lib.ListN.{length, drop}
 use lib.Seq.{drop-drop}
-use Rattle.wire.specs.Digits.{four, hexOf, twoAt, fourAt, octetsIn}
+use Rattle.wire.specs.Digits.{four, hexOf, twoAt, fourAt, octetsIn, SameDigits}
 use Rattle.wire.specs.Packet.{typeB, typeD, typeF}
 use Rattle.wire.proofs.Tests.{cond-by}
 use Rattle.wire.proofs.DigitLaws.{two-below, four-below}
@@ -38,9 +39,11 @@ use Rattle.messages.specs.Read.{
   commandReplyIn,
   replyIn,
 }
+use Rattle.messages.specs.Spelling.{SpellsReply}
 use Rattle.messages.specs.declared.message.Item.{Item}
 use Rattle.messages.proofs.ParseLaws.{Found, bind-found, map-found, date-found, item-fits, numbers-found}
-use Rattle.messages.proofs.WrittenBack.{two-at, four-at, name-written, ended, name-is, date-written, octets-written, numbers-written}
+use Rattle.messages.proofs.SpellingLaws.{spells-itself}
+use Rattle.messages.proofs.WrittenBack.{two-at, four-at, name-written, name-taken, ended, name-is, date-written, octets-written, numbers-written, spelt-digits, spelt}
 
 -- ---- the numbers of which only some are taken
 
@@ -63,16 +66,16 @@ mode-told t at e = rw e at (mode-found t at)
 -- ---- replies
 
 module _ (kind : ℕ) (t : List ℕ) where
-  -- a reply that has a text, of this type and this text
+  -- a reply that has a text, of this type and spelt so
   abbrev IsSaid : Reply → Type 0
-  IsSaid r = IsReply r × (replyType r ≡ kind) × (replyText r ≡ t)
+  IsSaid r = IsReply r × (replyType r ≡ kind) × SpellsReply r t
 
   -- if one was found, it is that
   abbrev Said : Option Reply → Type 0
   Said o = Found IsSaid o
 
   parameter-said : (reply : ℕ → ℕ → ℕ → ℕ → ℕ → ℕ → Reply)
-      → ((r p c o l v : ℕ) → IsParameter r p c o l v → parameterText r p c o l v ≡ t → IsSaid (reply r p c o l v)) → Said (parameterIn reply t)
+      → ((r p c o l v : ℕ) → IsParameter r p c o l v → SameDigits (parameterText r p c o l v) t → IsSaid (reply r p c o l v)) → Said (parameterIn reply t)
   unfolding parameterIn parameterText
   parameter-said reply say =
       cond-by Said (eqb (length t) 16) _ _
@@ -98,11 +101,11 @@ module _ (kind : ℕ) (t : List ℕ) where
 
   get-said : typeD ≡ kind → Said (parameterIn getReply t)
   unfolding replyType replyText
-  get-said is = parameter-said getReply (λ r p c o l v h e. (h, is, e))
+  get-said is = parameter-said getReply (λ r p c o l v h e. (h, is, spelt-digits e))
 
   set-said : typeF ≡ kind → Said (parameterIn setReply t)
   unfolding replyType replyText
-  set-said is = parameter-said setReply (λ r p c o l v h e. (h, is, e))
+  set-said is = parameter-said setReply (λ r p c o l v h e. (h, is, spelt-digits e))
 
   module _ (is : typeB ≡ kind) where
     power-read-said : beginsWith powerReadReplyName t ≡ true → Said (powerReadReplyIn (drop 2 t))
@@ -116,11 +119,14 @@ module _ (kind : ℕ) (t : List ℕ) where
         (λ f. bind-found IsSaid (modeAt s 10) _ λ mode m.
         let flag = flag-told s 0 a in
         let told = mode-told s 10 m in
-        let last = four-at s 10 [] (omega arith) (told .0) (ended 14 s (omega arith)) ∙ sym (drop-drop 8 2 s) in (
+        let last = rw (← drop-drop 8 2 s) at (four-at s 10 [] (omega arith) (told .0) (ended 14 s (omega arith))) in
+        let fixed = name-written powerReadReplyFixed (drop 2 s) (four mode) f last in (
           (flag .1, told .1),
           is,
-          name-written powerReadReplyName t _ b
-              (two-at s 0 _ (omega arith) (flag .0) (name-written powerReadReplyFixed (drop 2 s) (four mode) f last)),
+          record {
+            digits = name-written powerReadReplyName t _ b (two-at s 0 _ (omega arith) (flag .0) fixed);
+            name = rw (drop-drop 2 2 t) at (name-taken powerReadReplyFixed (drop 2 s) f);
+          },
         ))
         (λ _. tt))
         (λ _. tt)
@@ -134,10 +140,13 @@ module _ (kind : ℕ) (t : List ℕ) where
         cond-by Said (beginsWith powerControlName (drop 2 t)) _ _
         (λ f. bind-found IsSaid (fourAt t 8) _ λ mode m.
         let flag = flag-told t 0 a in
-        let last = four-at t 8 [] (omega arith) m (ended 12 t (omega arith)) ∙ sym (drop-drop 6 2 t) in (
+        let last = rw (← drop-drop 6 2 t) at (four-at t 8 [] (omega arith) m (ended 12 t (omega arith))) in (
           (flag .1, four-below t 8 m),
           is,
-          two-at t 0 _ (omega arith) (flag .0) (name-written powerControlName (drop 2 t) (four mode) f last),
+          record {
+            digits = two-at t 0 _ (omega arith) (flag .0) (name-written powerControlName (drop 2 t) (four mode) f last);
+            name = name-taken powerControlName (drop 2 t) f;
+          },
         ))
         (λ _. tt))
         (λ _. tt)
@@ -147,7 +156,7 @@ module _ (kind : ℕ) (t : List ℕ) where
     date-read-said b =
         let s = drop 4 t in
         map-found IsSaid dateReadReply (dateIn s)
-        (λ d e. (rw e at (date-found s), is, name-written dateReadReplyName t (dateText d) b (rw e at (date-written s))))
+        (λ d e. (rw e at (date-found s), is, spelt dateReadReplyName t (dateText d) b (rw e at (date-written s))))
 
     date-write-said : beginsWith dateWriteReplyName t ≡ true → Said (dateWriteReplyIn (drop 4 t))
     unfolding dateWriteReplyIn replyType replyText
@@ -160,7 +169,7 @@ module _ (kind : ℕ) (t : List ℕ) where
         let flag = flag-told s 0 a in (
           (flag .1, rw e at (date-found (drop 2 s))),
           is,
-          name-written dateWriteReplyName t _ b (two-at s 0 (dateText d) (omega arith) (flag .0) (rw e at (date-written (drop 2 s)))),
+          spelt dateWriteReplyName t _ b (two-at s 0 (dateText d) (omega arith) (flag .0) (rw e at (date-written (drop 2 s)))),
         ))
         (λ _. tt)
 
@@ -174,7 +183,7 @@ module _ (kind : ℕ) (t : List ℕ) where
         let flag = flag-told s 0 a in (
           (flag .1, item-fits (drop 2 s) e),
           is,
-          name-written tagWriteReplyName t _ b
+          spelt tagWriteReplyName t _ b
               (two-at s 0 (hexOf tag) (leb-true 2 (length s) h) (flag .0) (rw e at (octets-written (drop 2 s)))),
         ))
         (λ _. tt)
@@ -184,7 +193,7 @@ module _ (kind : ℕ) (t : List ℕ) where
     schedule-read-said b =
         let s = drop 4 t in
         map-found IsSaid (λ numbers. scheduleReply (scheduleReadReply numbers)) (numbersIn s)
-        (λ numbers e. (rw e at (numbers-found s), is, name-written scheduleReadReplyName t (hexOf numbers) b (rw e at (numbers-written s))))
+        (λ numbers e. (rw e at (numbers-found s), is, spelt scheduleReadReplyName t (hexOf numbers) b (rw e at (numbers-written s))))
 
     schedule-write-said : beginsWith scheduleWriteReplyName t ≡ true → Said (scheduleWriteReplyIn (drop 4 t))
     unfolding scheduleWriteReplyIn replyType replyText scheduleReplyText
@@ -197,7 +206,7 @@ module _ (kind : ℕ) (t : List ℕ) where
         let flag = flag-told s 0 a in (
           (flag .1, rw e at (numbers-found (drop 2 s))),
           is,
-          name-written scheduleWriteReplyName t _ b (two-at s 0 (hexOf numbers) (omega arith) (flag .0) (rw e at (numbers-written (drop 2 s)))),
+          spelt scheduleWriteReplyName t _ b (two-at s 0 (hexOf numbers) (omega arith) (flag .0) (rw e at (numbers-written (drop 2 s)))),
         ))
         (λ _. tt)
 
@@ -213,7 +222,7 @@ module _ (kind : ℕ) (t : List ℕ) where
         let flag = flag-told s 0 a in (
           (flag .1, two-below s 2 p, two-below s 4 e),
           is,
-          name-written scheduleEnableReplyName t _ b
+          spelt scheduleEnableReplyName t _ b
               (two-at s 0 _ (omega arith) (flag .0) (two-at s 2 _ (omega arith) p (two-at s 4 [] (omega arith) e (ended 6 s (omega arith))))),
         ))
         (λ _. tt)
@@ -221,7 +230,7 @@ module _ (kind : ℕ) (t : List ℕ) where
     plain-said : Said (plainReplyIn t)
     unfolding plainReplyIn replyType replyText
     plain-said =
-        cond-by Said (isName nullName t) _ _ (λ h. (tt, is, name-is nullName t h))
+        cond-by Said (isName nullName t) _ _ (λ h. (tt, is, rw (name-is nullName t h) (spells-itself 0 2 t)))
         (λ _. cond-by Said (beginsWith dateReadReplyName t) _ _ date-read-said
         (λ _. cond-by Said (beginsWith dateWriteReplyName t) _ _ date-write-said
         (λ _. cond-by Said (beginsWith scheduleEnableReplyName t) _ _ schedule-enable-said
@@ -235,8 +244,8 @@ module _ (kind : ℕ) (t : List ℕ) where
         let s = drop 4 t in
         cond-by Said (beginsWith (itemReplyName i) t) _ _
         (λ b. map-found IsSaid (itemReply i) (octetsIn s) λ bytes e.
-        let behind : hexOf bytes ≡ s = rw e at (octets-written s) in
-        (item-fits s e, is, name-written (itemReplyName i) t (hexOf bytes) b (rw l behind)))
+        let behind : SameDigits (hexOf bytes) s = rw e at (octets-written s) in
+        (item-fits s e, is, rw l at (spelt (itemReplyName i) t (hexOf bytes) b (rw l behind))))
         (λ _. f)
 
     command-said : Said (commandReplyIn t)
@@ -258,5 +267,5 @@ module _ (kind : ℕ) (t : List ℕ) where
       (λ _. cond-by Said (eqb kind typeB) _ _ (λ h. command-said (sym (eqb-true kind typeB h))) (λ _. tt)))
 
 pub reply-written-back : (kind : ℕ) (t : List ℕ) {r : Reply} → replyIn kind t ≡ some r
-    → IsReply r × (replyType r ≡ kind) × (replyText r ≡ t)
+    → IsReply r × (replyType r ≡ kind) × SpellsReply r t
 reply-written-back kind t e = rw e at (reply-said kind t)

@@ -1,5 +1,6 @@
 pub mod Message
 pub mod Text
 pub mod Read
+pub mod Spelling
 pub mod View
 pub mod Inner

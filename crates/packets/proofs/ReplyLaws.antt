@@ -14,7 +14,7 @@ use Rattle.wire.specs.Packet.{addressOf, zeroByte, size}
 use Rattle.wire.specs.Digits.{hexOf}
 use Rattle.wire.proofs.Tests.{cond-by, both}
 use Rattle.wire.proofs.DigitLaws.{hex-length}
-use Rattle.wire.proofs.PacketLaws.{packet-length, size-packet}
+use Rattle.wire.proofs.PacketLaws.{written-length, written-size}
 use Rattle.messages.specs.Message.{ScheduleRequest, Request, Reply}
 use Rattle.messages.specs.Message.ScheduleRequest.{scheduleRead, scheduleWrite, scheduleEnable}
 use Rattle.messages.specs.Message.Request.{getParameter, setParameter, powerRead, powerControl, dateRead, dateWrite, itemRead, tagWrite, schedule}
@@ -61,11 +61,11 @@ use Rattle.packets.proofs.IdentityLaws.{Named, named-told}
 -- STX and ETX, and L + 9 bytes
 pub reply-length : (i : Identity) (r : Reply) → length (replyFrom i r) ≡ length (replyText r) + 11
 unfolding replyWith
-reply-length i r = packet-length zeroByte (addressOf (i .id)) (replyType r) (replyText r)
+reply-length i r = written-length zeroByte (addressOf (i .id)) (replyType r) (replyText r)
 
 pub reply-size : (i : Identity) (r : Reply) → length (replyText r) ≤ 62 → size (replyFrom i r) ≡ length (replyFrom i r)
 unfolding replyWith
-reply-size i r h = size-packet zeroByte (addressOf (i .id)) (replyType r) (replyText r) h ∙ sym (reply-length i r)
+reply-size i r h = written-size zeroByte (addressOf (i .id)) (replyType r) (replyText r) h ∙ sym (reply-length i r)
 
 -- ---- the texts of replies
 

@@ -1,4 +1,4 @@
--- A packet that the reader takes is the packet of the reply that it reads, byte for byte.
+-- A packet that the reader takes spells the reply that it reads: but for the letter case of digits, and the check code over them, it is that reply's packet.
 use borrow.Author.Tests.{eqb-true}
 use mathlib.Core.Bool.{Bool, true, false, cond}
 use mathlib.Core.List.{List, [], _∷_, _++_}
@@ -9,14 +9,14 @@ use native.Mathlib.Omega.{arith}
 use lib.Dec.{eqb}
 use lib.ListN.{length, getD, take, drop, length-append, length-drop, take-append-drop, drop-of-length-le}
 use lib.Seq.{length-take-le, drop-cons, drop-drop, take-at, append-snoc}
-use Rattle.wire.specs.Digits.{two, twoAt}
-use Rattle.wire.specs.Packet.{soh, stx, etx, cr, zeroByte, addressBase, xorOf, covered, packet, replyPacket, sizeFrom, size, checkCode, packetText}
+use Rattle.wire.specs.Digits.{two, twoAt, SameDigits}
+use Rattle.wire.specs.Packet.{soh, stx, etx, cr, zeroByte, addressBase, xorOf, covered, packetWith, sizeFrom, size, checkCode, packetText}
 use Rattle.wire.specs.Judge.{endsInReturn, hasCheckCode, isMessage}
 use Rattle.wire.proofs.Tests.{both}
 use Rattle.messages.specs.Message.{Reply, IsReply}
-use Rattle.messages.specs.Text.{replyType, replyText}
 use Rattle.messages.specs.Read.{replyIn}
-use Rattle.messages.proofs.WrittenBack.{two-at}
+use Rattle.messages.specs.Spelling.{SpeltReply}
+use Rattle.messages.proofs.WrittenBack.{two-written}
 use Rattle.messages.proofs.RepliesWrittenBack.{reply-written-back}
 use Rattle.replies.specs.View.{orRefused}
 use Rattle.station.specs.Read.{reply, sentBy, replyInMessage, replyVerdict, readPacket}
@@ -108,19 +108,21 @@ module _ (p : List ℕ) (g : GoodReply p) (m : isMessage p ≡ true) where
         h .station,
       )
 
+  abbrev counts : List ℕ
+  counts = getD p 5 0 ∷ getD p 6 0 ∷ []
+
   abbrev cover : List ℕ
-  cover = covered zeroByte (getD p 3 0) (getD p 4 0) (packetText p)
+  cover = covered zeroByte (getD p 3 0) (getD p 4 0) counts (packetText p)
 
   -- the packet, but that its check code is said from p
   parts : p ≡ soh ∷ (cover ++ (checkCode p ∷ cr ∷ []))
   parts =
       let l = text-length in
       let body = ap₂ (λ (b : ℕ) (s : List ℕ). b ∷ s) (message-bounds .0) behind-header in
-      let message = sym (drop-cons p 7 0 (omega arith) ∙ body) in
       let text = sym (append-snoc (packetText p) etx (checkCode p ∷ cr ∷ [])) in
       header-first
       ∙ ap (λ (s : List ℕ). soh ∷ zeroByte ∷ zeroByte ∷ getD p 3 0 ∷ getD p 4 0 ∷ s)
-      (sym (two-at p 5 _ (omega arith) digits message) ∙ ap (λ (s : List ℕ). two (n + 2) ++ (stx ∷ s)) text)
+      (drop-cons p 5 0 (omega arith) ∙ rw (drop-cons p 6 0 (omega arith), drop-cons p 7 0 (omega arith), body, text))
 
   code-covers : checkCode p ≡ xorOf cover
   unfolding checkCode
@@ -128,8 +130,12 @@ module _ (p : List ℕ) (g : GoodReply p) (m : isMessage p ≡ true) where
       let e : length cover ≡ size p - 3 = simp length-append (omega (arith, sized)) in
       ap (λ (q : List ℕ). xorOf (take (size p - 3) (drop 1 q))) parts ∙ ap xorOf (take-at cover (checkCode p ∷ cr ∷ []) (size p - 3) e)
 
-  packet-framed : p ≡ replyPacket (getD p 3 0) (getD p 4 0) (packetText p)
-  unfolding packet
+  counted : SameDigits (two (n + 2)) counts
+  unfolding twoAt SameDigits
+  counted = two-written (getD p 5 0) (getD p 6 0) [] [] digits tt
+
+  packet-framed : p ≡ packetWith zeroByte (getD p 3 0) (getD p 4 0) counts (packetText p)
+  unfolding packetWith
   packet-framed = parts ∙ ap (λ (x : ℕ). soh ∷ (cover ++ (x ∷ cr ∷ []))) code-covers
 
 -- ---- what the reader read
@@ -143,7 +149,7 @@ message-told true o e = (refl, e)
 message-told false o {r} e = absurd (Option·none-ne-some r e)
 
 pub read-written : (p : List ℕ) {id : ℕ} {r : Reply} → readPacket p ≡ reply id r
-    → IsReply r × ((1 ≤ id) × (id ≤ 8)) × (p ≡ replyPacket (0x40 + id) (replyType r) (replyText r))
+    → IsReply r × ((1 ≤ id) × (id ≤ 8)) × SpeltReply (0x40 + id) r p
 unfolding readPacket replyInMessage
 read-written p {id} {r} e =
     let told = not-refused (replyVerdict p) _ e in
@@ -156,5 +162,11 @@ read-written p {id} {r} e =
     let source : getD p 3 0 ≡ 0x40 + id = omega (arith, read .0) in (
       back .0,
       (omega arith, omega arith),
-      packet-framed p g (found .0) ∙ rw (source, back .1, back .2),
+      record {
+        digits = counts p g (found .0);
+        text = packetText p;
+        counted = counted p g (found .0);
+        said = back .2;
+        whole = packet-framed p g (found .0) ∙ rw (source, back .1);
+      },
     )

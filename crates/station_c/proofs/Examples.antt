@@ -5,7 +5,7 @@ use mathlib.Core.Path.{_≡_, refl}
 use Prim.Native.Nat.{ℕ}
 use lib.ListN.{length}
 use Rattle.wire.specs.Digits.{hexOf, valueOf, twoAt, fourAt, unhex, octetsIn}
-use Rattle.wire.specs.Packet.{xorFrom, packet, over, size, checkCode, packetText}
+use Rattle.wire.specs.Packet.{xorFrom, packetWith, packet, over, size, checkCode, packetText}
 use Rattle.wire.specs.Judge.{isLength, endsInReturn, hasCheckCode, isMessage}
 use Rattle.messages.specs.Message.{Reply, replyBytes}
 use Rattle.messages.specs.Text.{dateText, scheduleText, requestType, requestText}
@@ -46,7 +46,7 @@ a and b = (a, b)
 
 pub worked-hold : AllHold worked
 unfolding AllHold destinationOf encodingOf date.isAccepted isDay daysIn weekdayOf beforeYear beforeMonth program.isAccepted areZero requestType requestText dateText scheduleText
-    hexOf packet xorFrom readInto readPacket replyVerdict isReplyHeader isWholeLength isLength size endsInReturn hasCheckCode checkCode
+    hexOf packet packetWith xorFrom readInto readPacket replyVerdict isReplyHeader isWholeLength isLength size endsInReturn hasCheckCode checkCode
     replyInMessage isMessage packetText twoAt fourAt valueOf beginsWith isName flagAt modeAt bind dateIn octetsIn unhex
     replyIn parameterIn commandReplyIn tagWriteReplyIn plainReplyIn dateWriteReplyIn powerReadReplyIn powerControlReplyIn
     numbersIn scheduleWriteReplyIn scheduleEnableReplyIn replySize
@@ -62,16 +62,16 @@ worked-hold =
     unsent refl and unsent refl and unsent refl and unsent refl and unsent refl and told refl and told refl and told refl and
     told refl and told refl and told refl and told refl and told refl and told refl and told refl and told refl and
     told refl and told refl and told refl and told refl and told refl and told refl and told refl and told refl and
-    told refl and told refl and told refl and told refl and told refl and untold refl and untold refl and untold refl and
+    told refl and told refl and told refl and told refl and told refl and told refl and told refl and told refl and
     untold refl and untold refl and untold refl and untold refl and untold refl and untold refl and untold refl and untold refl and
     untold refl and untold refl and untold refl and untold refl and untold refl and untold refl and untold refl and untold refl and
     untold refl and untold refl and untold refl and untold refl and untold refl and untold refl and untold refl and untold refl and
     untold refl and untold refl and untold refl and untold refl and untold refl and untold refl and untold refl and untold refl and
     untold refl and untold refl and untold refl and untold refl and untold refl and untold refl and untold refl and untold refl and
     untold refl and untold refl and untold refl and untold refl and untold refl and untold refl and untold refl and untold refl and
-    untold refl and untold refl and untold refl and untold refl and untold refl and untold refl and untold refl and refl and
+    untold refl and untold refl and untold refl and untold refl and untold refl and untold refl and untold refl and untold refl and
+    untold refl and untold refl and untold refl and untold refl and untold refl and refl and refl and refl and
     refl and refl and refl and refl and refl and refl and refl and refl and
     refl and refl and refl and refl and refl and refl and refl and refl and
     refl and refl and refl and refl and refl and refl and refl and refl and
-    refl and
     tt

@@ -9,11 +9,11 @@ use Prim.Native.Nat.{ℕ, _+_, _-_, _≤_}
 use lib.Dec.{ltb, leb, eqb}
 use lib.ListN.{length, getD, take, drop}
 use Rattle.wire.specs.Digits.{twoAt}
-use Rattle.wire.specs.Packet.{xorOf, replyPacket}
+use Rattle.wire.specs.Packet.{xorOf}
 use Rattle.wire.specs.Checks.{Check, firstFailed}
 use Rattle.messages.specs.Message.{Reply, IsReply}
-use Rattle.messages.specs.Text.{replyType, replyText}
 use Rattle.messages.specs.Read.{replyIn}
+use Rattle.messages.specs.Spelling.{SpeltReply}
 use Rattle.calendar.specs.Calendar.{daysIn, weekdayOf}
 use Rattle.station.specs.Encode as encode
 use Rattle.station.specs.Read as read
@@ -123,6 +123,6 @@ pub record Refusals : Type 0 where
   pub most : (first : List ℕ) → replySize first ≤ 73
   pub framed : (numbers bytes : ℕ) (p : List ℕ) (id : ℕ) (r : Reply) → readInto numbers bytes p ≡ read.reply id r
       → (n : ℕ) → 7 ≤ n → n ≤ length p → replySize (take n p) ≡ length p
-  -- and it is, byte for byte, the packet of the reply that is read, sent by the monitor that is told
+  -- and it spells the reply that is read, sent by the monitor that is told: its packet, but for the letter case of digits and the check code over them
   pub written : (numbers bytes : ℕ) (p : List ℕ) (id : ℕ) (r : Reply) → readInto numbers bytes p ≡ read.reply id r
-      → IsReply r × ((1 ≤ id) × (id ≤ 8)) × (p ≡ replyPacket (0x40 + id) (replyType r) (replyText r))
+      → IsReply r × ((1 ≤ id) × (id ≤ 8)) × SpeltReply (0x40 + id) r p

@@ -1,12 +1,12 @@
 -- Digits are read back as the number or the bytes that were written, and what is read is no larger than its digits allow.
 use Prim.Native.Nat.{ℕ, zero, suc, _+_, _*_, _/_, _%_, _<_, _≤_}
-use mathlib.Core.Bool.{cond}
+use mathlib.Core.Bool.{cond, _&&_}
 use mathlib.Core.List.{List, [], _∷_, _++_, append-nil, append-assoc}
 use mathlib.Core.Option.{Option, none, some, Option·map, Option·none-ne-some}
 use mathlib.Core.Path.{_≡_, refl, sym, ap, _∙_}
 use native.Mathlib.Nat.{not-suc-le-zero, suc-mul, mul-le-mul-right}
 use native.Mathlib.Omega.{arith}
-use borrow.Author.Tests.{le-ltb, le-leb, lt-leb, ltb-true, ltb-false, leb-true, eqb-true, eqb-false}
+use borrow.Author.Tests.{le-ltb, le-leb, lt-leb, ltb-true, ltb-false, eqb-true, eqb-false}
 use lib.Dec.{ltb, leb, eqb}
 use lib.ListN.{length, getD, take, drop, length-append, length-drop, drop-of-length-le, List·getD-append}
 use lib.Seq.{paste, take-paste, drop-paste, drop-drop, drop-cons, take-add, take-length, append-snoc}
@@ -24,7 +24,7 @@ use Rattle.wire.specs.Digits.{
   octetsIn,
   padded,
 }
-use Rattle.wire.proofs.Tests.{cond-by}
+use Rattle.wire.proofs.Tests.{cond-by, and-false, range-told}
 
 -- ---- how large a number can be
 
@@ -35,10 +35,9 @@ Below k (some n) = n < k
 digit-within : (b : ℕ) → Below 16 (valueOf b)
 unfolding valueOf
 digit-within b =
-    cond-by (Below 16) (ltb b 0x30) _ _ (λ _. tt)
-    (λ _. cond-by (Below 16) (leb b 0x39) _ _ (λ t. omega (arith, leb-true b 0x39 t))
-    (λ _. cond-by (Below 16) (ltb b 0x41) _ _ (λ _. tt)
-    (λ _. cond-by (Below 16) (leb b 0x46) _ _ (λ t. omega (arith, leb-true b 0x46 t)) (λ _. tt))))
+    cond-by (Below 16) (leb 0x30 b && leb b 0x39) _ _ (λ t. omega (arith, range-told 0x30 b 0x39 t .1))
+    (λ _. cond-by (Below 16) (leb 0x41 b && leb b 0x46) _ _ (λ t. omega (arith, range-told 0x41 b 0x46 t .1))
+    (λ _. cond-by (Below 16) (leb 0x61 b && leb b 0x66) _ _ (λ t. omega (arith, range-told 0x61 b 0x66 t .1)) (λ _. tt)))
 
 join-within : (m base : ℕ) (high low : Option ℕ) → Below m high → Below base low → Below (m * base) (join base high low)
 join-within m base none low p q = tt
@@ -66,11 +65,11 @@ pub digit-back : (n : ℕ) → n < 16 → valueOf (digitOf n) ≡ some n
 unfolding valueOf
 digit-back n h =
     cond-by (λ (b : ℕ). valueOf b ≡ some n) (ltb n 10) _ _
-    (λ t. let k = ltb-true n 10 t in rw (le-ltb (0x30 + n) 0x30 (omega arith), le-leb (0x30 + n) 0x39 (omega arith)) (ap some (omega arith)))
+    (λ t. let k = ltb-true n 10 t in rw (le-leb 0x30 (0x30 + n) (omega arith), le-leb (0x30 + n) 0x39 (omega arith)) (ap some (omega arith)))
     (λ t. let k = ltb-false n 10 t in rw (
-      le-ltb (0x37 + n) 0x30 (omega arith),
       lt-leb (0x37 + n) 0x39 (omega arith),
-      le-ltb (0x37 + n) 0x41 (omega arith),
+      and-false (leb 0x30 (0x37 + n)),
+      le-leb 0x41 (0x37 + n) (omega arith),
       le-leb (0x37 + n) 0x46 (omega arith),
     )
     (ap some (omega arith)))

@@ -10,11 +10,12 @@ use borrow.Author.Tests.{le-leb, leb-true, eq-eqb}
 use lib.Dec.{leb, eqb}
 use lib.ListN.{length, take, drop, set, getD, length-append, length-drop, List·getD-append}
 use lib.Seq.{paste, take-at, take-length, drop-append-add, drop-drop, set-at, drop-cons, append-snoc, getD-append-add}
-use Rattle.wire.specs.Digits.{two, twoAt}
-use Rattle.wire.specs.Packet.{soh, stx, etx, cr, zeroByte, xorOf, covered, packet, over, sizeFrom, size, checkCode, packetText}
+use Rattle.wire.specs.Digits.{two, twoAt, SameDigits}
+use Rattle.wire.specs.Packet.{soh, stx, etx, cr, zeroByte, xorOf, covered, packetWith, packet, over, sizeFrom, size, checkCode, packetText}
 use Rattle.wire.specs.Judge.{Verdict, good, refused, isRequestType, inLimits, isLength, headerVerdict, endsInReturn, hasCheckCode, isMessage, packetVerdict}
 use Rattle.wire.proofs.Tests.{both}
 use Rattle.wire.proofs.DigitLaws.{two-back, two-at-append}
+use Rattle.wire.proofs.CaseLaws.{same-itself, same-length, same-append, same-two}
 
 -- ---- writing right behind what is written
 
@@ -41,79 +42,120 @@ module _ (p o : List ℕ) (k : ℕ) (e : length p ≡ k) where
 
 -- ---- a packet's parts
 
-module _ (dest source kind : ℕ) (text : List ℕ) where
+two-bytes : (P : List ℕ → Type 0) → ((high low : ℕ) → P (high ∷ low ∷ [])) → (digits : List ℕ) → length digits ≡ 2 → P digits
+two-bytes P f [] e = absurd (omega arith)
+two-bytes P f (high ∷ []) e = absurd (omega arith)
+two-bytes P f (high ∷ low ∷ []) e = f high low
+two-bytes P f (high ∷ low ∷ b ∷ digits) e = absurd (omega arith)
+
+module _ (dest source kind : ℕ) (digits text : List ℕ) where
   -- from SOH to the text's end
   abbrev pub front : List ℕ
-  front = soh ∷ zeroByte ∷ dest ∷ source ∷ kind ∷ (two (length text + 2) ++ (stx ∷ text))
+  front = soh ∷ zeroByte ∷ dest ∷ source ∷ kind ∷ (digits ++ (stx ∷ text))
 
-  pub packet-parts : packet dest source kind text ≡ front ++ (etx ∷ xorOf (covered dest source kind text) ∷ cr ∷ [])
-  unfolding packet
+  abbrev cover : List ℕ
+  cover = covered dest source kind digits text
+
+  abbrev whole : List ℕ
+  whole = packetWith dest source kind digits text
+
+  packet-parts : whole ≡ front ++ (etx ∷ xorOf cover ∷ cr ∷ [])
+  unfolding packetWith
   packet-parts = simp append-assoc
 
-  pub packet-length : length (packet dest source kind text) ≡ length text + 11
+  -- with length digits that count the text, STX and ETX, in either case
+  module _ (counted : SameDigits (two (length text + 2)) digits) where
+    pair : length digits ≡ 2
+    pair = same-length (two (length text + 2)) digits counted
+
+    pub packet-length : length whole ≡ length text + 11
+    unfolding packetWith
+    packet-length = simp length-append (omega (arith, pair))
+
+    packet-stx : getD whole 7 0 ≡ stx
+    unfolding packetWith
+    packet-stx = two-bytes (λ d. getD (packetWith dest source kind d text) 7 0 ≡ stx) (λ high low. refl) digits pair
+
+    module _ (most : length text ≤ 62) where
+      packet-two : twoAt whole 5 ≡ some (length text + 2)
+      unfolding packetWith twoAt
+      packet-two =
+          let first = soh ∷ zeroByte ∷ dest ∷ source ∷ kind ∷ [] in
+          let text-on = stx ∷ (text ++ (etx ∷ [])) in
+          let last = xorOf cover ∷ cr ∷ [] in
+          let written = two (length text + 2) in
+          let message = same-append written digits text-on text-on counted (same-itself text-on) in
+          let all = same-append (written ++ text-on) (digits ++ text-on) last last message (same-itself last) in
+          same-two _ whole (same-append first first _ _ (same-itself first) all) 5 ∙ two-back (length text + 2) (omega arith)
+
+      pub size-packet : size whole ≡ length text + 11
+      unfolding size
+      size-packet = rw packet-two (omega arith)
+
+      pub text-packet : packetText whole ≡ text
+      unfolding packetText
+      text-packet =
+          let n = size whole - 11 in
+          let e : length text ≡ n = rw size-packet (omega arith) in
+          let behind = etx ∷ xorOf cover ∷ cr ∷ [] in
+          ap (λ (p : List ℕ). take n (drop 8 p)) packet-parts
+          ∙ two-bytes (λ d. take n (drop 8 (soh ∷ zeroByte ∷ dest ∷ source ∷ kind ∷ (d ++ (stx ∷ text)) ++ behind)) ≡ text)
+          (λ high low. take-at text behind n e) digits pair
+
+      -- the last three bytes
+      packet-end : (i : ℕ) → i ≤ 2 → getD whole (size whole - (3 - i)) 0 ≡ getD (etx ∷ xorOf cover ∷ cr ∷ []) i 0
+      packet-end i h =
+          let e : length text + 11 - (3 - i) ≡ length front + i = simp length-append (omega (arith, pair)) in
+          rw (size-packet, e, packet-parts, getD-append-add)
+
+      packet-code : checkCode whole ≡ xorOf cover
+      unfolding checkCode packetWith
+      packet-code =
+          let e : length cover ≡ size whole - 3 = simp (size-packet, length-append) (omega (arith, pair)) in
+          ap xorOf (take-at cover _ _ e)
+
+      pub packet-limits : 2 ≤ length text → isLength whole ≡ true
+      unfolding isLength
+      packet-limits least = rw (packet-two, le-leb 4 (length text + 2) (omega arith), le-leb (length text + 2) 64 (omega arith))
+
+      pub packet-returns : endsInReturn whole ≡ true
+      unfolding endsInReturn
+      packet-returns = eq-eqb _ cr (packet-end 2 (omega arith))
+
+      pub packet-checks : hasCheckCode whole ≡ true
+      unfolding hasCheckCode
+      packet-checks = eq-eqb _ _ (packet-end 1 (omega arith) ∙ sym packet-code)
+
+      pub packet-message : isMessage whole ≡ true
+      unfolding isMessage
+      packet-message = rw (packet-stx, eq-eqb (getD whole (size whole - 3) 0) etx (packet-end 0 (omega arith)))
+
+      pub packet-good : packetVerdict whole ≡ good
+      unfolding packetVerdict
+      packet-good = rw (packet-returns, packet-checks, packet-message)
+
+module _ (dest kind : ℕ) (digits text : List ℕ) (counted : SameDigits (two (length text + 2)) digits) where
+  pub header-packet : isRequestType kind ≡ true → 2 ≤ length text → length text ≤ 62 → headerVerdict (packetWith dest zeroByte kind digits text) ≡ good
+  unfolding headerVerdict packetWith
+  header-packet k least most = rw (k, packet-limits dest zeroByte kind digits text counted most least)
+
+-- ---- a packet as it is written
+
+pub written-counted : (text : List ℕ) → SameDigits (two (length text + 2)) (two (length text + 2))
+written-counted text = same-itself (two (length text + 2))
+
+module _ (dest source kind : ℕ) (text : List ℕ) where
+  pub written-length : length (packet dest source kind text) ≡ length text + 11
   unfolding packet
-  packet-length = simp length-append (omega arith)
+  written-length = packet-length dest source kind (two (length text + 2)) text (written-counted text)
 
-  module _ (most : length text ≤ 62) where
-    packet-two : twoAt (packet dest source kind text) 5 ≡ some (length text + 2)
-    unfolding packet twoAt
-    packet-two = two-back (length text + 2) (omega arith)
-
-    pub size-packet : size (packet dest source kind text) ≡ length text + 11
-    unfolding size
-    size-packet = rw packet-two (omega arith)
-
-    pub text-packet : packetText (packet dest source kind text) ≡ text
-    unfolding packetText
-    text-packet =
-        let e : length text ≡ size (packet dest source kind text) - 11 = rw size-packet (omega arith) in
-        ap (λ (p : List ℕ). take (size (packet dest source kind text) - 11) (drop 8 p)) packet-parts
-        ∙ take-at text _ _ e
-
-    -- the last three bytes
-    packet-end : (i : ℕ) → i ≤ 2 → getD (packet dest source kind text) (size (packet dest source kind text) - (3 - i)) 0
-        ≡ getD (etx ∷ xorOf (covered dest source kind text) ∷ cr ∷ []) i 0
-    packet-end i h =
-        let e : length text + 11 - (3 - i) ≡ length front + i = omega arith in
-        rw (size-packet, e, packet-parts, getD-append-add)
-
-    packet-code : checkCode (packet dest source kind text) ≡ xorOf (covered dest source kind text)
-    unfolding checkCode packet
-    packet-code =
-        let e : length (covered dest source kind text) ≡ size (packet dest source kind text) - 3 = simp (size-packet, length-append) (omega arith) in
-        ap xorOf (take-at (covered dest source kind text) _ _ e)
-
-  packet-stx : getD (packet dest source kind text) 7 0 ≡ stx
+  pub written-size : length text ≤ 62 → size (packet dest source kind text) ≡ length text + 11
   unfolding packet
-  packet-stx = refl
+  written-size = size-packet dest source kind (two (length text + 2)) text (written-counted text)
 
-  pub packet-limits : 2 ≤ length text → length text ≤ 62 → isLength (packet dest source kind text) ≡ true
-  unfolding isLength
-  packet-limits least most = rw (packet-two most, le-leb 4 (length text + 2) (omega arith), le-leb (length text + 2) 64 (omega arith))
-
-  module _ (most : length text ≤ 62) where
-    pub packet-returns : endsInReturn (packet dest source kind text) ≡ true
-    unfolding endsInReturn
-    packet-returns = eq-eqb _ cr (packet-end most 2 (omega arith))
-
-    pub packet-checks : hasCheckCode (packet dest source kind text) ≡ true
-    unfolding hasCheckCode
-    packet-checks = eq-eqb _ _ (packet-end most 1 (omega arith) ∙ sym (packet-code most))
-
-    pub packet-message : isMessage (packet dest source kind text) ≡ true
-    unfolding isMessage
-    packet-message =
-        let p = packet dest source kind text in
-        rw (packet-stx, eq-eqb (getD p (size p - 3) 0) etx (packet-end most 0 (omega arith)))
-
-    pub packet-good : packetVerdict (packet dest source kind text) ≡ good
-    unfolding packetVerdict
-    packet-good = rw (packet-returns, packet-checks, packet-message)
-
-pub header-packet : (dest kind : ℕ) (text : List ℕ) → isRequestType kind ≡ true → 2 ≤ length text → length text ≤ 62
-    → headerVerdict (packet dest zeroByte kind text) ≡ good
-unfolding headerVerdict packet
-header-packet dest kind text k least most = rw (k, packet-limits dest zeroByte kind text least most)
+  pub written-text : length text ≤ 62 → packetText (packet dest source kind text) ≡ text
+  unfolding packet
+  written-text = text-packet dest source kind (two (length text + 2)) text (written-counted text)
 
 -- ---- what is behind the header leaves its verdict alone
 

@@ -6,10 +6,10 @@ use mathlib.Core.Option.{none, some}
 use mathlib.Core.Path.{_≡_, refl}
 use lib.Dec.{eqb}
 use Rattle.wire.specs.Digits.{digitOf, valueOf}
-use Rattle.wire.specs.Packet.{addressOf, packet, xorFrom}
+use Rattle.wire.specs.Packet.{addressOf, packetWith, packet, xorFrom}
 use Rattle.wire.proofs.Tables.{upFrom, each}
 
--- every byte (docs/RULES.md, 'Packets', G1): 30h to 39h are 0 to 9, 41h to 46h are 10 to 15, and none of the others is a digit
+-- every byte (docs/RULES.md, 'Packets', G1): 30h to 39h are 0 to 9, 41h to 46h and 61h to 66h are 10 to 15, and none of the others is a digit
 pub digit-values : (b : ℕ) → b < 256
     → valueOf b ≡
     cond (eqb b 0x30) (some 0)
@@ -28,7 +28,13 @@ pub digit-values : (b : ℕ) → b < 256
     (cond (eqb b 0x44) (some 13)
     (cond (eqb b 0x45) (some 14)
     (cond (eqb b 0x46) (some 15)
-    none)))))))))))))))
+    (cond (eqb b 0x61) (some 10)
+    (cond (eqb b 0x62) (some 11)
+    (cond (eqb b 0x63) (some 12)
+    (cond (eqb b 0x64) (some 13)
+    (cond (eqb b 0x65) (some 14)
+    (cond (eqb b 0x66) (some 15)
+    none)))))))))))))))))))))
 unfolding valueOf
 digit-values = each valueOf _ 256 refl
 
@@ -54,5 +60,5 @@ pub packets : (packet 0x41 0x30 0x45 (0x30 ∷ 0x30 ∷ 0x31 ∷ 0x30 ∷ 0x30 �
     ∷ (0x01 ∷ 0x30 ∷ 0x2A ∷ 0x30 ∷ 0x45 ∷ 0x30 ∷ 0x41 ∷ 0x02 ∷ 0x30 ∷ 0x30 ∷ 0x31 ∷ 0x30 ∷ 0x30 ∷ 0x30 ∷ 0x36 ∷ 0x34 ∷ 0x03 ∷ 0x1C ∷ 0x0D ∷ [])
     ∷ (0x01 ∷ 0x30 ∷ 0x30 ∷ 0x41 ∷ 0x42 ∷ 0x30 ∷ 0x34 ∷ 0x02 ∷ 0x42 ∷ 0x45 ∷ 0x03 ∷ 0x01 ∷ 0x0D ∷ [])
     ∷ []
-unfolding packet xorFrom
+unfolding packet packetWith xorFrom
 packets = refl

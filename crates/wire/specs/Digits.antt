@@ -1,9 +1,10 @@
--- Numbers on the wire (docs/RULES.md, 'Packets', PK3): hexadecimal digits 0-9 and A-F, capitals only, high digit first.
-use mathlib.Core.Bool.{cond}
+-- Numbers on the wire (docs/RULES.md, 'Packets', PK3): hexadecimal digits, high digit first; written in capitals, and received in either case.
+use mathlib.Core.Bool.{cond, _&&_}
 use mathlib.Core.List.{List, [], _∷_, _++_}
+use mathlib.Core.Logic.{_⊎_}
 use mathlib.Core.Option.{Option, none, some, Option·map}
 use mathlib.Core.Path.{_≡_}
-use Prim.Native.Nat.{ℕ, _+_, _-_, _*_, _/_, _%_, _<_}
+use Prim.Native.Nat.{ℕ, _+_, _-_, _*_, _/_, _%_, _≤_, _<_}
 use lib.Dec.{ltb, leb}
 use lib.ListN.{length, getD, drop, replicate}
 use Rattle.wire.specs.declared.digits.Octet.{Octet}
@@ -39,10 +40,9 @@ hexOf (b ∷ bs) = digitOf (b / 16) ∷ digitOf (b % 16) ∷ hexOf bs
 -- the value of a digit; none where the byte is no digit
 unfoldable pub valueOf : ℕ → Option ℕ
 valueOf b =
-    cond (ltb b 0x30) none
-    (cond (leb b 0x39) (some (b - 0x30))
-    (cond (ltb b 0x41) none
-    (cond (leb b 0x46) (some (b - 0x37)) none)))
+    cond (leb 0x30 b && leb b 0x39) (some (b - 0x30))
+    (cond (leb 0x41 b && leb b 0x46) (some (b - 0x37))
+    (cond (leb 0x61 b && leb b 0x66) (some (b - 0x57)) none))
 
 -- a high and a low part as one number, the low part below base; none where either is none
 abbrev pub joinLow : ℕ → ℕ → Option ℕ → Option ℕ
@@ -78,6 +78,19 @@ unhex (h ∷ l ∷ t) = cons (join 16 (valueOf h) (valueOf l)) (unhex t)
 -- the same for at most 16 bytes, as serial numbers, models and tags have
 unfoldable pub octetsIn : List ℕ → Option (List ℕ)
 octetsIn t = cond (ltb 32 (length t)) none (unhex t)
+
+-- ---- in either case
+
+-- b may come where a is written: the same byte, or a small letter for a digit A to F
+abbrev pub SameDigit : ℕ → ℕ → Type 0
+SameDigit a b = (b ≡ a) ⊎ ((0x41 ≤ a) × (a ≤ 0x46) × (b ≡ a + 0x20))
+
+-- as many bytes in both, and each of the second may come where that of the first is written
+unfoldable pub SameDigits : List ℕ → List ℕ → Type 0
+SameDigits [] [] = Unit {0}
+SameDigits [] (b ∷ t) = ⊥
+SameDigits (a ∷ s) [] = ⊥
+SameDigits (a ∷ s) (b ∷ t) = SameDigit a b × SameDigits s t
 
 -- ---- what the code's answers mean
 

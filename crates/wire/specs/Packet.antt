@@ -78,7 +78,7 @@ mostPacket = 73
 abbrev pub leastBuffer : ℕ
 leastBuffer = 64
 
--- ---- a packet as written
+-- ---- a packet as it is made up, and as it is written
 
 -- the exclusive or of a and all bytes
 unfoldable pub xorFrom : ℕ → List ℕ → ℕ
@@ -88,15 +88,18 @@ xorFrom a (b ∷ bs) = xorFrom (bitXor a b) bs
 abbrev pub xorOf : List ℕ → ℕ
 xorOf bs = xorFrom 0 bs
 
--- all bytes after SOH through ETX; the length digits count the text, STX and ETX
-abbrev pub covered : ℕ → ℕ → ℕ → List ℕ → List ℕ
-covered dest source kind text =
-    zeroByte ∷ dest ∷ source ∷ kind ∷ (two (length text + 2) ++ (stx ∷ (text ++ (etx ∷ []))))
+-- all bytes after SOH through ETX
+abbrev pub covered : ℕ → ℕ → ℕ → List ℕ → List ℕ → List ℕ
+covered dest source kind digits text = zeroByte ∷ dest ∷ source ∷ kind ∷ (digits ++ (stx ∷ (text ++ (etx ∷ []))))
 
--- a whole packet with the text between STX and ETX
+-- a packet with length digits, and the text between STX and ETX; the check code is that of the bytes as they are
+unfoldable pub packetWith : ℕ → ℕ → ℕ → List ℕ → List ℕ → List ℕ
+packetWith dest source kind digits text =
+    soh ∷ (covered dest source kind digits text ++ (xorOf (covered dest source kind digits text) ∷ cr ∷ []))
+
+-- as it is written: the length digits count the text, STX and ETX
 unfoldable pub packet : ℕ → ℕ → ℕ → List ℕ → List ℕ
-packet dest source kind text =
-    soh ∷ (covered dest source kind text ++ (xorOf (covered dest source kind text) ∷ cr ∷ []))
+packet dest source kind text = packetWith dest source kind (two (length text + 2)) text
 
 -- a request comes from the station, a reply goes to it
 abbrev pub requestPacket : ℕ → ℕ → List ℕ → List ℕ

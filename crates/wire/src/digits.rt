@@ -30,21 +30,18 @@ pub struct Octets {
     pub bytes: [u8; 16],
 }
 
-// The value of a digit.
+// The value of a digit, in either case.
 pub fn value_of(b: u8) -> Octet
     ensures { λ r. ⌜ octet r ≡ valueOf b ⌝ }
 {
-    if b < 0x30 {
-        return Octet::Bad;
-    }
-    if b <= 0x39 {
+    if (0x30 <= b) & (b <= 0x39) {
         return Octet::Value(b - 0x30);
     }
-    if b < 0x41 {
-        return Octet::Bad;
-    }
-    if b <= 0x46 {
+    if (0x41 <= b) & (b <= 0x46) {
         return Octet::Value(b - 0x37);
+    }
+    if (0x61 <= b) & (b <= 0x66) {
+        return Octet::Value(b - 0x57);
     }
     Octet::Bad
 }

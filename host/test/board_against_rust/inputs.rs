@@ -205,6 +205,18 @@ fn mend_length(packet: &mut [u8]) {
     }
 }
 
+// Small letters for some capitals: in the length, behind a name of four bytes, or anywhere behind the type. With the check code of these bytes.
+fn respell(random: &mut Random, packet: &mut [u8]) {
+    let end = packet.len() - 3;
+    let places = match random.below(3) {
+        0 => 5..7,
+        1 => 12.min(end)..end,
+        _ => 5..end,
+    };
+    packet[places].iter_mut().filter(|_| random.one_in(2)).for_each(u8::make_ascii_lowercase);
+    mend_check_code(packet);
+}
+
 pub fn hex(bytes: &[u8]) -> String {
     bytes.iter().map(|byte| format!("{byte:02X}")).collect()
 }
@@ -338,7 +350,7 @@ fn request(random: &mut Random, erases: bool) -> (u8, String) {
     }
 }
 
-// Makes a text into one that is nearly a request: another type, a digit more or less, a small letter, another byte.
+// Makes a text into one that is nearly a request: another type, a digit more or less, a letter in small, which spoils a name alone, another byte.
 fn nearly(random: &mut Random, (kind, text): (u8, String)) -> (u8, Vec<u8>) {
     let mut text = text.into_bytes();
     let place = random.below(text.len());
@@ -392,13 +404,18 @@ fn damage(random: &mut Random, packet: &mut Vec<u8>) {
     }
 }
 
-// Bytes for the line: mostly a good packet, then one that is nearly a request, one that is damaged, or junk. A good packet is an
-// erase only where asked for.
+// Bytes for the line: mostly a good packet, then one in small letters, one that is nearly a request, one that is damaged, or junk. A good
+// packet is an erase only where asked for.
 pub fn line(random: &mut Random, own: u8, erases: bool) -> Vec<u8> {
     let destination = destination(random, own);
     let good = request(random, erases);
     match random.below(40) {
-        0..=27 => packet(destination, good.0, good.1.as_bytes()),
+        0..=20 => packet(destination, good.0, good.1.as_bytes()),
+        21..=27 => {
+            let mut packet = packet(destination, good.0, good.1.as_bytes());
+            respell(random, &mut packet);
+            packet
+        }
         28..=31 => {
             let (kind, text) = nearly(random, good);
             packet(destination, kind, &text)

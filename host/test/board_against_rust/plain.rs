@@ -28,6 +28,7 @@ fn digit(byte: u8) -> Option<u16> {
     match byte {
         b'0'..=b'9' => Some(u16::from(byte - b'0')),
         b'A'..=b'F' => Some(u16::from(byte - b'A') + 10),
+        b'a'..=b'f' => Some(u16::from(byte - b'a') + 10),
         _ => None,
     }
 }
@@ -460,7 +461,7 @@ impl Board {
     fn act(&mut self, kind: u8, text: &[u8], own: bool, store: &mut [u8], lent: &mut [u8]) -> Answer {
         let writing = match kind {
             b'C' => self.get(text, store),
-            b'E' if text == b"F0010001" => {
+            b'E' if text.eq_ignore_ascii_case(b"F0010001") => {
                 store[0] = ERASING;
                 self.erase = Some(Erase { next: 1, owed: own });
                 return Begun;

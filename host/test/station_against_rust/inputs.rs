@@ -233,6 +233,18 @@ fn reply(random: &mut Random, near: bool) -> Vec<u8> {
     packet(b'0', random.from_to(0x41, 0x48) as u8, kind, text.as_bytes())
 }
 
+// Small letters for some capitals: in the length, behind a name of four bytes, or anywhere behind the type. With the check code of these bytes.
+fn respell(random: &mut Random, packet: &mut [u8]) {
+    let end = packet.len() - 3;
+    let places = match random.below(3) {
+        0 => 5..7,
+        1 => 12.min(end)..end,
+        _ => 5..end,
+    };
+    packet[places].iter_mut().filter(|_| random.one_in(2)).for_each(u8::make_ascii_lowercase);
+    mend_check_code(packet);
+}
+
 // A byte that packets have in some place, or any byte.
 fn odd_byte(random: &mut Random) -> u8 {
     if random.one_in(2) {
@@ -306,7 +318,12 @@ fn framed(random: &mut Random) -> Vec<u8> {
 
 pub fn reply_bytes(random: &mut Random) -> Vec<u8> {
     match random.below(16) {
-        0..=4 => reply(random, false),
+        0..=2 => reply(random, false),
+        3..=4 => {
+            let mut packet = reply(random, false);
+            respell(random, &mut packet);
+            packet
+        }
         5..=7 => reply(random, true),
         8..=9 => damaged(random, usize::MAX),
         10..=12 => {

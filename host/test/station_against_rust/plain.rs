@@ -158,10 +158,7 @@ pub fn encode(dest: u16, request: &Request, room: usize) -> Result<Vec<u8>, u8> 
 }
 
 fn digit(byte: u8) -> Option<u16> {
-    match byte {
-        b'0'..=b'9' | b'A'..=b'F' => (byte as char).to_digit(16).map(|value| value as u16),
-        _ => None,
-    }
+    (byte as char).to_digit(16).map(|value| value as u16)
 }
 
 fn number(digits: &[u8]) -> Option<u16> {
