@@ -29,6 +29,7 @@ fn digit(b: u8) -> Option<usize> {
     match b {
         b'0'..=b'9' => Some((b - b'0') as usize),
         b'A'..=b'F' => Some((b - b'A') as usize + 10),
+        b'a'..=b'f' => Some((b - b'a') as usize + 10),
         _ => None,
     }
 }
