@@ -7,8 +7,8 @@ use native.Mathlib.Nat.{zero-add, add-zero}
 use native.Mathlib.Omega.{arith}
 use lib.ListN.{length, replicate}
 use borrow.Author.Tests.{le-ltb}
-use Rattle.wire.specs.Digits.{two, SameDigits}
-use Rattle.wire.specs.Packet.{zeroByte, packetWith, packet}
+use Rattle.wire.specs.Digits.{SameDigits}
+use Rattle.wire.specs.Packet.{zeroByte, packetWith, packet, lengthDigits}
 use Rattle.wire.specs.Judge.{isRequestType}
 use Rattle.wire.proofs.PacketLaws.{written-counted}
 use Rattle.receiver.specs.Receive as receive
@@ -58,7 +58,7 @@ module _ (i : Identity) (m : List ℕ) (lent : ℕ → List ℕ) (room : (k : �
 -- a sound board with no erase pending and nothing held
 pub packet-fed : (s : BoardState) (m : List ℕ) (lent : ℕ → List ℕ) (dest kind : ℕ) (digits text : List ℕ) (es : Events)
     → isSound boardKind s m ≡ true → s .erase ≡ idle → s .held ≡ []
-    → ((k : ℕ) → 64 ≤ length (lent k)) → SameDigits (two (length text + 2)) digits
+    → ((k : ℕ) → 64 ≤ length (lent k)) → SameDigits (lengthDigits text) digits
     → isRequestType kind ≡ true → 2 ≤ length text → length text ≤ 62
     → run boardKind (s .ident) s m (byteCalls lent 0 (packetWith dest zeroByte kind digits text) ++ es)
     ≡ waits lent m 0 (length text + 10) ++ seenThen (s .ident) m (onPacket (s .ident) m (packetWith dest zeroByte kind digits text) (lent (length text + 10))) es
@@ -89,7 +89,7 @@ unfolding packet
 packet-answered s m lent dest kind text h q n room request least most =
     let p = packet dest zeroByte kind text in
     ap (λ (es : Events). answersIn (run boardKind (s .ident) s m es)) (sym (append-nil (byteCalls lent 0 p)))
-    ∙ ap answersIn (packet-fed s m lent dest kind (two (length text + 2)) text [] h q n room (written-counted text) request least most)
+    ∙ ap answersIn (packet-fed s m lent dest kind (lengthDigits text) text [] h q n room (written-counted text) request least most)
     ∙ waited (length text + 10) 0 m lent _
     ∙ ap (λ (l : List (Answer ℕ)). replicate (length text + 10) waiting ++ l) (last-answered (s .ident) m (onPacket (s .ident) m p (lent (length text + 10))))
 

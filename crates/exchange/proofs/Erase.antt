@@ -5,8 +5,7 @@ use mathlib.Core.List.{List, [], _++_}
 use Prim.Native.Nat.{ℕ, _+_, _≤_, _<_}
 use native.Mathlib.Omega.{arith}
 use lib.ListN.{length}
-use Rattle.wire.specs.Digits.{two}
-use Rattle.wire.specs.Packet.{typeE, packet}
+use Rattle.wire.specs.Packet.{typeE, packet, lengthDigits}
 use Rattle.wire.proofs.PacketLaws.{written-counted}
 use Rattle.messages.specs.Message.Request.{setParameter}
 use Rattle.messages.specs.Text.{requestType, requestText}
@@ -34,11 +33,11 @@ module _ (i : Identity) (m : List ℕ) (ready : Ready i m) where
 
     own-begins : Begins true (erasePacket (0x40 + i .id))
     unfolding erasePacket eraseText requestText packet toOwn
-    own-begins = own-seen i m (ready .rests) typeE (two (length eraseText + 2)) eraseText (written-counted eraseText) refl (omega arith) (omega arith) lent room es erase-begins
+    own-begins = own-seen i m (ready .rests) typeE (lengthDigits eraseText) eraseText (written-counted eraseText) refl (omega arith) (omega arith) lent room es erase-begins
 
     all-begins : Begins false (erasePacket 0x2A)
     unfolding erasePacket eraseText requestText packet toAll
-    all-begins = all-seen i m (ready .rests) typeE (two (length eraseText + 2)) eraseText (written-counted eraseText) refl (omega arith) (omega arith) lent room es erase-begins
+    all-begins = all-seen i m (ready .rests) typeE (lengthDigits eraseText) eraseText (written-counted eraseText) refl (omega arith) (omega arith) lent room es erase-begins
 
   pub set-erase : BeginsErase i m
   unfolding seen

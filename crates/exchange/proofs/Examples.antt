@@ -7,19 +7,19 @@ use mathlib.Core.Option.{bind}
 use Prim.Native.Nat.{ℕ, _+_, _-_, _≤_}
 use native.Mathlib.Omega.{arith}
 use borrow.Author.Tests.{le-ltb}
-use lib.ListN.{length, set, replicate}
+use lib.ListN.{length, take, set, replicate}
 use Rattle.bitfield.specs.Field.{getField, putField, setBit, withBit, bit, bitOf}
 use Rattle.wire.specs.Digits.{two, valueOf, twoAt, fourAt, octetsIn, unhex, hexOf, padded, SameDigits}
-use Rattle.wire.specs.Packet.{zeroByte, over, xorFrom, packetWith, packet, packetText, size, typeA, typeC, typeE}
+use Rattle.wire.specs.Packet.{zeroByte, over, xorFrom, packetWith, packet, packetText, size, typeA, typeC, typeE, lengthDigits}
 use Rattle.wire.specs.Judge.{isRequestType}
 use Rattle.wire.proofs.CaseLaws.{same-itself}
 use Rattle.wire.proofs.PacketLaws.{packet-length, written-counted}
 use Rattle.messages.specs.Message.{Request, Reply}
-use Rattle.messages.specs.Message.Request.{getParameter, setParameter, powerControl}
+use Rattle.messages.specs.Message.Request.{getParameter, setParameter, powerControl, tagWrite}
 use Rattle.messages.specs.Message.ScheduleReply.{scheduleReadReply, scheduleWriteReply, scheduleEnableReply}
 use Rattle.messages.specs.Message.Reply.{null, getReply, setReply, powerReadReply, powerControlReply, dateReadReply, dateWriteReply, itemReply, tagWriteReply, scheduleReply}
 use Rattle.messages.specs.Text.{requestType, requestText, replyType, replyText, parameterText, dateText, scheduleReplyText}
-use Rattle.messages.specs.Spelling.{SpeltRequest}
+use Rattle.messages.specs.Spelling.{nameLength, SpeltRequest}
 use Rattle.messages.specs.declared.message.Date.{Date}
 use Rattle.messages.specs.declared.message.Item.{Item}
 use Rattle.messages.specs.Read.{beginsWith, isName, dateIn, numbersIn, getIn, setIn, powerControlIn, scheduleReadIn, scheduleEnableIn, commandIn, requestIn}
@@ -68,7 +68,7 @@ written dest r bytes e room h = rw (le-ltb room 64 h) e
 
 -- what is seen of a packet, by what it leaves
 seen-of : (m : List ℕ) (dest kind : ℕ) (digits text p left : List ℕ) (a : Answer ℕ) (buffer : List ℕ → List ℕ) (o : List ℕ → BoardOutcome)
-    → SameDigits (two (length text + 2)) digits
+    → SameDigits (lengthDigits text) digits
     → isSound boardKind resting m ≡ true → isRequestType kind ≡ true → 2 ≤ length text → length text ≤ 62 → packetWith dest zeroByte kind digits text ≡ p
     → ((lent : List ℕ) → onPacket one m (packetWith dest zeroByte kind digits text) lent ≡ o lent)
     → ((lent : List ℕ) → seen boardKind (o lent) m ≡ answered a (buffer lent) left)
@@ -83,7 +83,7 @@ seen-of m dest kind digits text p left a buffer o counted sound request least mo
     ∙ ap (λ (o : BoardOutcome). waits lent m 0 n ++ seenThen one m o []) (does (lent n))
     ∙ ap (λ (x : lists.Seen ℕ). waits lent m 0 n ++ (x ∷ [])) (shows (lent n)))
 
-spelt-replied : (m : List ℕ) (kind : ℕ) (digits text : List ℕ) → SameDigits (two (length text + 2)) digits → (r : Reply) (es : List Entry)
+spelt-replied : (m : List ℕ) (kind : ℕ) (digits text : List ℕ) → SameDigits (lengthDigits text) digits → (r : Reply) (es : List Entry)
     → effect one m (requestIn kind text) ≡ replies r es → (p left : List ℕ)
     → isSound boardKind resting m ≡ true → isRequestType kind ≡ true → 2 ≤ length text → length text ≤ 62
     → (bytes : List ℕ) → packetWith 0x41 zeroByte kind digits text ≡ p → replyFrom one r ≡ bytes → applied es m ≡ left
@@ -96,7 +96,7 @@ spelt-replied m kind digits text counted r es is p left sound request least most
 -- with length digits as they are written: a reply, and the same in silence
 module _ (m : List ℕ) (kind : ℕ) (text : List ℕ) where
   abbrev digits : List ℕ
-  digits = two (length text + 2)
+  digits = lengthDigits text
 
   module _ (r : Reply) (es : List Entry) (is : effect one m (requestIn kind text) ≡ replies r es)
       (p left : List ℕ) (sound : isSound boardKind resting m ≡ true) (request : isRequestType kind ≡ true) (least : 2 ≤ length text) (most : length text ≤ 62) where
@@ -185,12 +185,10 @@ weekdays = 2 ∷ 7 ∷ 0 ∷ 23 ∷ 30 ∷ 17 ∷ 0x1F ∷ 0x06 ∷ replicate 8 
 abbrev late : List ℕ
 late = 2 ∷ 25 ∷ 0 ∷ 23 ∷ 30 ∷ 17 ∷ 0x1F ∷ 0x06 ∷ replicate 8 0
 
--- a Set in digits of either case
-spelt : (page code v : ℕ) (p digits text : List ℕ) → SameDigits (two (length text + 2)) digits → SameDigits (requestText (setParameter page code v)) text
-    → p ≡ packetWith 0x41 zeroByte typeE digits text → SpeltRequest 0x41 (setParameter page code v) p
-unfolding requestType
-spelt page code v p digits text counted said whole =
-    record { digits = digits; text = text; counted = counted; said = record { digits = said; name = refl }; whole = whole }
+spelt : (r : Request) (p digits text : List ℕ) → SameDigits (lengthDigits text) digits → SameDigits (requestText r) text
+    → take (nameLength r) text ≡ take (nameLength r) (requestText r) → p ≡ packetWith 0x41 zeroByte (requestType r) digits text → SpeltRequest 0x41 r p
+spelt r p digits text counted said name whole =
+    record { digits = digits; text = text; counted = counted; said = record { digits = said; name = name }; whole = whole }
 
 -- 0010004B as 0010004b, and F0010001 as f0010001
 small-75 : SameDigits (requestText (setParameter 0x00 0x10 75)) (packetText set75)
@@ -200,6 +198,11 @@ small-75 = (inl refl, (inl refl, (inl refl, (inl refl, (inl refl, (inl refl, (in
 small-erase : SameDigits (requestText (setParameter 0xF0 0x01 1)) (packetText eraseSmall)
 unfolding SameDigits requestText packetText size twoAt valueOf
 small-erase = (inr (omega arith, omega arith, refl), (inl refl, (inl refl, (inl refl, (inl refl, (inl refl, (inl refl, (inl refl, tt))))))))
+
+-- F0116D4A as F0116d4A
+small-tag : SameDigits (requestText (tagWrite (0x6D ∷ 0x4A ∷ []))) (packetText writeTagSmall)
+unfolding SameDigits requestText hexOf packetText size twoAt valueOf
+small-tag = (inl refl, (inl refl, (inl refl, (inl refl, (inl refl, (inr (omega arith, omega arith, refl), (inl refl, (inl refl, tt))))))))
 
 -- 10 as 0a
 small-ten : SameDigits (two 10) (0x30 ∷ 0x61 ∷ [])
@@ -240,12 +243,13 @@ row-examples-hold =
     and replied programmed typeA (packetText writeLate) (scheduleReply (scheduleWriteReply 1 late)) [] refl writeLate programmed refl refl (omega arith) (omega arith) lateRefused refl refl refl
     and replied programmed typeA (packetText askSeven) null [] refl askSeven programmed refl refl (omega arith) (omega arith) p8 refl refl refl
     and replied programmed typeA (packetText enableSeven) (scheduleReply (scheduleEnableReply 1 7 1)) [] refl enableSeven programmed refl refl (omega arith) (omega arith) sevenRefused refl refl refl
-    and spelt 0x00 0x10 100 p1Small (0x30 ∷ 0x61 ∷ []) (packetText p1Small) small-ten (same-itself (packetText p1Small)) refl
+    and spelt (setParameter 0x00 0x10 100) p1Small (0x30 ∷ 0x61 ∷ []) (packetText p1Small) small-ten (same-itself (packetText p1Small)) refl refl
     and spelt-replied unusedBytes typeE (0x30 ∷ 0x61 ∷ []) (packetText p1Small) small-ten (setReply 0 0x00 0x10 0 100 100) (entry 1 0xC8 ∷ []) refl p1Small (set unusedBytes 1 0xC8) refl refl (omega arith) (omega arith) p1Reply refl refl refl
-    and spelt 0x00 0x10 75 set75 (0x30 ∷ 0x41 ∷ []) (packetText set75) (same-itself (0x30 ∷ 0x41 ∷ [])) small-75 refl
+    and spelt (setParameter 0x00 0x10 75) set75 (0x30 ∷ 0x41 ∷ []) (packetText set75) (same-itself (0x30 ∷ 0x41 ∷ [])) small-75 refl refl
     and replied unusedBytes typeE (packetText set75) (setReply 0 0x00 0x10 0 100 75) (entry 1 0x96 ∷ []) refl set75 (set unusedBytes 1 0x96) refl refl (omega arith) (omega arith) shown75 refl refl refl
-    and spelt 0xF0 0x01 1 eraseSmall (0x30 ∷ 0x41 ∷ []) (packetText eraseSmall) (same-itself (0x30 ∷ 0x41 ∷ [])) small-erase refl
+    and spelt (setParameter 0xF0 0x01 1) eraseSmall (0x30 ∷ 0x41 ∷ []) (packetText eraseSmall) (same-itself (0x30 ∷ 0x41 ∷ [])) small-erase refl refl
     and begun-by unusedBytes typeE (packetText eraseSmall) eraseSmall (set unusedBytes 0 0xE7) refl refl refl (omega arith) (omega arith) refl refl
     and replied unusedBytes typeA (packetText askTagSmall) null [] refl askTagSmall unusedBytes refl refl (omega arith) (omega arith) p8 refl refl refl
+    and spelt (tagWrite (0x6D ∷ 0x4A ∷ [])) writeTagSmall (0x30 ∷ 0x41 ∷ []) (packetText writeTagSmall) (same-itself (0x30 ∷ 0x41 ∷ [])) small-tag refl refl
     and replied unusedBytes typeA (packetText writeTagSmall) (tagWriteReply 0 (0x6D ∷ 0x4A ∷ [])) (tagStores unusedBytes (0x6D ∷ 0x4A ∷ [])) refl writeTagSmall taggedSmall refl refl (omega arith) (omega arith) tagSmallWritten refl refl refl
     and tt

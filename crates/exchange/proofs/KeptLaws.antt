@@ -13,8 +13,8 @@ use lib.Seq.{ext-getD, getD-take, getD-drop}
 use borrow.Author.Tests.{leb-true, ltb-false, leb-false}
 use Rattle.bitfield.specs.Field.{bit, getField, Apart}
 use Rattle.bitfield.proofs.Laws.{get-put-other, byte-put}
-use Rattle.wire.specs.Digits.{Bytes, two}
-use Rattle.wire.specs.Packet.{addressOf, packet, requestPacket}
+use Rattle.wire.specs.Digits.{Bytes}
+use Rattle.wire.specs.Packet.{addressOf, packet, requestPacket, lengthDigits}
 use Rattle.wire.proofs.Tests.{both}
 use Rattle.wire.proofs.PacketLaws.{written-counted}
 use Rattle.plan.specs.Stores.{Entry, applied}
@@ -67,7 +67,7 @@ module _ (i : Identity) (r : Request) (h : IsRequest r) (lent : ℕ → List ℕ
       let l = request-length r h in
       let text = requestText r in
       ap (λ (es : Events). heard (run boardKind i (holding i []) m es)) (sym (append-nil bytes))
-      ∙ ap heard (own-seen i m idle (requestType r) (two (length text + 2)) text (written-counted text) (request-type r) (l .0) (l .1) lent room []
+      ∙ ap heard (own-seen i m idle (requestType r) (lengthDigits text) text (written-counted text) (request-type r) (l .0) (l .1) lent room []
       (ap (effect i m) (request-back r h)))
       ∙ heard-waits lent m 0 (length (requestText r) + 10) _
 

@@ -1,5 +1,5 @@
--- A packet that spells a request which the station writes, given to a board that it addresses, does what the request says: its text is read as that request.
-use mathlib.Core.Path.{_≡_, refl, sym, ap, _∙_, subst}
+-- A packet that spells a request, given to a board that it addresses, does what the request says: its text is read as that request.
+use mathlib.Core.Path.{_≡_, refl, sym, subst}
 use mathlib.Core.Bool.{Bool, true, _&&_}
 use mathlib.Core.List.{List, _++_}
 use mathlib.Core.Option.{Option, none, some}
@@ -8,8 +8,8 @@ use native.Mathlib.Omega.{arith}
 use borrow.Author.Tests.{eq-eqb, ne-eqb}
 use lib.Dec.{ltb, leb}
 use lib.ListN.{length, getD}
-use Rattle.wire.specs.Digits.{two, SameDigits}
-use Rattle.wire.specs.Packet.{addressOf, allAddress, zeroByte, packetWith, packet, requestPacket, packetText}
+use Rattle.wire.specs.Digits.{SameDigits}
+use Rattle.wire.specs.Packet.{addressOf, allAddress, zeroByte, packetWith, requestPacket, packetText, lengthDigits}
 use Rattle.wire.proofs.Tests.{cond-by}
 use Rattle.wire.proofs.CaseLaws.{same-length}
 use Rattle.wire.proofs.PacketLaws.{packet-length, text-packet}
@@ -55,14 +55,9 @@ module _ (kind : ℕ) (text p : List ℕ) where
   sent room dest good =
       cond-by (λ (x : Encoding). x ≡ sends p → Sent (addressIn dest) good kind text p) (ltb room 64) _ _ (λ _. refusal-sends-none 10) (λ _. sent-to (addressIn dest) good)
 
--- its destination stands in the packet
-sent-to-address : {address : Option ℕ} {good : Bool} {kind : ℕ} {text p : List ℕ} (x : Sent address good kind text p) → getD p 2 0 ≡ x .to
-unfolding packet packetWith
-sent-to-address x = rw (x .is)
-
 -- ---- what a packet does at a board that it addresses
 
-module _ (i : Identity) (m lent : List ℕ) (kind : ℕ) (digits text : List ℕ) (counted : SameDigits (two (length text + 2)) digits) (most : length text ≤ 62) where
+module _ (i : Identity) (m lent : List ℕ) (kind : ℕ) (digits text : List ℕ) (counted : SameDigits (lengthDigits text) digits) (most : length text ≤ 62) where
   abbrev packetTo : ℕ → List ℕ
   packetTo a = packetWith a zeroByte kind digits text
 
@@ -80,7 +75,7 @@ module _ (i : Identity) (m lent : List ℕ) (kind : ℕ) (digits text : List ℕ
 
 -- ---- every request, in every spelling
 
-module _ (r : Request) (h : IsRequest r) (digits text : List ℕ) (counted : SameDigits (two (length text + 2)) digits) (said : SpellsRequest r text) where
+module _ (r : Request) (h : IsRequest r) (digits text : List ℕ) (counted : SameDigits (lengthDigits text) digits) (said : SpellsRequest r text) where
   abbrev kind : ℕ
   kind = requestType r
 
@@ -113,20 +108,18 @@ module _ (r : Request) (h : IsRequest r) (digits text : List ℕ) (counted : Sam
         rw (l, ← packet-done (s .ident) m (lent (length text + 10)) dest a to known)
         (packet-fed s m lent a kind digits text es (idle .sound) (idle .resting) (idle .empty) big counted (request-type r) (spelt-length .0) (spelt-length .1))
 
-pub any-case : (dest : Destination) (r : Request) (room : ℕ) (p q : List ℕ) → IsRequest r → encoding room dest r ≡ sends p → SpeltRequest (getD p 2 0) r q
+pub any-case : (dest : Destination) (address : ℕ) (r : Request) (p : List ℕ) → addressIn dest ≡ some address → IsRequest r → SpeltRequest address r p
     → (s : BoardState) (m : List ℕ) → Idle s m → Addresses dest (s .ident)
     → (lent : ℕ → List ℕ) → ((k : ℕ) → 64 ≤ length (lent k)) → (es : Events)
-    → run boardKind (s .ident) s m (byteCalls lent 0 q ++ es)
-    ≡ waits lent m 0 (length q - 1) ++ seenThen (s .ident) m (done dest (s .ident) m r (lent (length q - 1))) es
-any-case dest r room p q h e spelt s m idle to lent big es =
-    let x = sent (requestType r) (requestText r) p room dest _ e in
-    let known = x .known ∙ ap some (sym (sent-to-address x)) in
+    → run boardKind (s .ident) s m (byteCalls lent 0 p ++ es)
+    ≡ waits lent m 0 (length p - 1) ++ seenThen (s .ident) m (done dest (s .ident) m r (lent (length p - 1))) es
+any-case dest address r p known h spelt s m idle to lent big es =
     let digits = spelt .digits in
     let text = spelt .text in
     subst (Does r h digits text (spelt .counted) (spelt .said) dest s m lent es) (sym (spelt .whole))
-    (packet-does r h digits text (spelt .counted) (spelt .said) dest s m lent es (getD p 2 0) known idle to big)
+    (packet-does r h digits text (spelt .counted) (spelt .said) dest s m lent es address known idle to big)
 
--- what it writes is a spelling too
+-- what the station writes is a spelling too
 pub requests : (dest : Destination) (r : Request) (room : ℕ) (p : List ℕ) → IsRequest r → encoding room dest r ≡ sends p
     → (s : BoardState) (m : List ℕ) → Idle s m → Addresses dest (s .ident)
     → (lent : ℕ → List ℕ) → ((k : ℕ) → 64 ≤ length (lent k)) → (es : Events)
@@ -134,4 +127,4 @@ pub requests : (dest : Destination) (r : Request) (room : ℕ) (p : List ℕ) �
     ≡ waits lent m 0 (length p - 1) ++ seenThen (s .ident) m (done dest (s .ident) m r (lent (length p - 1))) es
 requests dest r room p h e =
     let x = sent (requestType r) (requestText r) p room dest _ e in
-    any-case dest r room p p h e (rw (sent-to-address x) (subst (SpeltRequest (x .to) r) (sym (x .is)) (request-written (x .to) r)))
+    any-case dest (x .to) r p (x .known) h (subst (SpeltRequest (x .to) r) (sym (x .is)) (request-written (x .to) r))

@@ -4,8 +4,8 @@ use mathlib.Core.Bool.{true}
 use mathlib.Core.List.{List, [], _++_}
 use Prim.Native.Nat.{ℕ, _+_, _≤_}
 use lib.ListN.{length}
-use Rattle.wire.specs.Digits.{two, SameDigits}
-use Rattle.wire.specs.Packet.{addressOf, allAddress, zeroByte, packetWith}
+use Rattle.wire.specs.Digits.{SameDigits}
+use Rattle.wire.specs.Packet.{addressOf, allAddress, zeroByte, packetWith, lengthDigits}
 use Rattle.wire.specs.Judge.{isRequestType}
 use Rattle.wire.proofs.PacketLaws.{written-counted}
 use Rattle.plan.specs.Stores.{Entry, applied}
@@ -37,7 +37,7 @@ module _ (i : Identity) (m : List ℕ) (idle : Idle (holding i []) m) where
 
   -- ---- a packet
 
-  module _ (kind : ℕ) (digits text : List ℕ) (counted : SameDigits (two (length text + 2)) digits)
+  module _ (kind : ℕ) (digits text : List ℕ) (counted : SameDigits (lengthDigits text) digits)
       (request : isRequestType kind ≡ true) (least : 2 ≤ length text) (most : length text ≤ 62) where
     module _ (lent : ℕ → List ℕ) (room : (k : ℕ) → 64 ≤ length (lent k)) (later : Events) where
       -- what is seen of it, sent to an address: waiting, an outcome on its last byte, and the rest
@@ -81,7 +81,7 @@ module _ (i : Identity) (m : List ℕ) (idle : Idle (holding i []) m) where
   pub asks : (r : Request) {x : Reply} {es : List Entry} → IsRequest r → effectOf i m r ≡ replies x es → IsReply x → Asks i m r x (applied es m)
   asks r h is y =
       let text = requestText r in
-      exchanged (requestType r) (two (length text + 2)) text (written-counted text) (request-type r) (request-length r h .0) (request-length r h .1)
+      exchanged (requestType r) (lengthDigits text) text (written-counted text) (request-type r) (request-length r h .0) (request-length r h .1)
       (request-effect r h is) y
 
   -- one that stores nothing
@@ -93,7 +93,7 @@ module _ (i : Identity) (m : List ℕ) (ready : Ready i m) where
   sayable : (kind : ℕ) (text : List ℕ) {x : Reply} {es : List Entry} → effect i m (requestIn kind text) ≡ replies x es → IsReply x
   sayable kind text is = effect-sayable i m (ready .in-bytes) (named i m (ready .rests)) (rest i m (ready .rests) .ranged) kind text is
 
-  pub ready-exchanged : (kind : ℕ) (digits text : List ℕ) {x : Reply} {es : List Entry} → SameDigits (two (length text + 2)) digits
+  pub ready-exchanged : (kind : ℕ) (digits text : List ℕ) {x : Reply} {es : List Entry} → SameDigits (lengthDigits text) digits
       → isRequestType kind ≡ true → 2 ≤ length text → length text ≤ 62
       → effect i m (requestIn kind text) ≡ replies x es → Exchange i m kind digits text x (applied es m)
   ready-exchanged kind digits text counted request least most is =

@@ -15,7 +15,7 @@ use Rattle.exchange.proofs.Erase.{set-erase}
 use Rattle.exchange.proofs.Contents.{power-on, power-standby, power-control, power-refused, date-read, date-write, date-refused}
 use Rattle.exchange.proofs.Contents.{serial-read, model-read, tag-read, former-read, tag-write}
 
--- what no request says is read as none
+-- what spells no request is read as none
 other-unread : (kind : ℕ) (text : List ℕ) → IsOther kind text → requestIn kind text ≡ none
 other-unread kind text other = go (requestIn kind text) refl
   where

@@ -1,9 +1,10 @@
 -- DEMAND 2 of board and station together (docs/RULES.md, 'Demand 2', RT1, RT2 and L3, the message table, AC1 to AC11, 'Schedules', S1 to S6, and 'Calendar', K1
 -- and K2).
 -- A request that the station writes is read by an idle board that it addresses as that request; a reply that a board writes is read by
--- the station with each value intact; both with digits in either case; and each row of the message table does what Rows.antt and ScheduleRows.antt say of it.
+-- the station with each value intact; so is every packet that spells a request, or a reply, with digits in either case; and each row of the message table does what Rows.antt and ScheduleRows.antt say of it.
 use mathlib.Core.Bool.{true}
 use mathlib.Core.List.{List, [], _∷_, _++_}
+use mathlib.Core.Option.{some}
 use mathlib.Core.Path.{_≡_}
 use Prim.Native.Nat.{ℕ, _+_, _-_, _≤_}
 use lib.ListN.{length, getD, take, drop}
@@ -22,7 +23,7 @@ use Rattle.board.specs.ByteCalls.{byteCalls, waits, seenThen}
 use Rattle.packets.specs.Packets.{BoardState, BoardOutcome, toOwn, toAll}
 use Rattle.board.specs.BoardKind.{byte, boardKind}
 use Rattle.board.specs.Demand3.{Events}
-use Rattle.station.specs.Encode.{sends, encoding}
+use Rattle.station.specs.Encode.{sends, addressIn, encoding}
 use Rattle.station.specs.Read as station
 use Rattle.station.specs.declared.encode.Destination.{Destination}
 use Rattle.exchange.specs.Rows.{Idle, InBytes, Ready, takesDate, Rows, RefusalKeeps}
@@ -64,12 +65,13 @@ pub record Demand2 : Type 0 where
       → (lent : ℕ → List ℕ) → ((k : ℕ) → 64 ≤ length (lent k)) → (es : Events)
       → run boardKind (s .ident) s m (byteCalls lent 0 p ++ es)
       ≡ waits lent m 0 (length p - 1) ++ seenThen (s .ident) m (done dest (s .ident) m r (lent (length p - 1))) es
-  -- and every packet that spells it: length and message digits in either case, names as they are written, and the check code of its own bytes
-  pub any-case : (dest : Destination) (r : Request) (room : ℕ) (p q : List ℕ) → IsRequest r → encoding room dest r ≡ sends p → SpeltRequest (getD p 2 0) r q
+  -- and every packet that spells a request, whether the encoder writes it or not: length and message digits in either case, names as they are written,
+  -- and the check code of its own bytes
+  pub any-case : (dest : Destination) (address : ℕ) (r : Request) (p : List ℕ) → addressIn dest ≡ some address → IsRequest r → SpeltRequest address r p
       → (s : BoardState) (m : List ℕ) → Idle s m → Addresses dest (s .ident)
       → (lent : ℕ → List ℕ) → ((k : ℕ) → 64 ≤ length (lent k)) → (es : Events)
-      → run boardKind (s .ident) s m (byteCalls lent 0 q ++ es)
-      ≡ waits lent m 0 (length q - 1) ++ seenThen (s .ident) m (done dest (s .ident) m r (lent (length q - 1))) es
+      → run boardKind (s .ident) s m (byteCalls lent 0 p ++ es)
+      ≡ waits lent m 0 (length p - 1) ++ seenThen (s .ident) m (done dest (s .ident) m r (lent (length p - 1))) es
   -- every reply that a board gives on a byte
   pub replies-read : (b : ℕ) (s : BoardState) (m lent : List ℕ) (n : ℕ) → InBytes (s .ident) m → onCall boardKind (byte b) s m lent .answer ≡ reply n
       → RepliesTo (s .ident) m (s .held ++ (b ∷ [])) n lent (onCall boardKind (byte b) s m lent)

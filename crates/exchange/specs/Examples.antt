@@ -1,6 +1,6 @@
 -- The worked examples P1 to P11 (docs/RULES.md, 'Worked examples') as one list: what the encoder writes, what a board in a named
 -- state replies and stores, and the unused bytes. ID 1, but for the Get sent to ID 8, whose check code is CR. Then a list of packets with their replies
--- for the rows of the message table that P1 to P11 leave out, and other answers of those that they have.
+-- for the rows of the message table that P1 to P11 leave out, other answers of those that they have, and packets that spell requests in small letters.
 use mathlib.Core.Bool.{true}
 use mathlib.Core.List.{List, [], _∷_, _++_}
 use mathlib.Core.Path.{_≡_}
@@ -8,7 +8,7 @@ use Prim.Native.Nat.{ℕ, _-_, _≤_}
 use lib.ListN.{length, take, drop, set}
 use Rattle.wire.specs.Packet.{over}
 use Rattle.messages.specs.Message.{Request}
-use Rattle.messages.specs.Message.Request.{getParameter, setParameter, powerControl}
+use Rattle.messages.specs.Message.Request.{getParameter, setParameter, powerControl, tagWrite}
 use Rattle.messages.specs.Spelling.{SpeltRequest}
 use Rattle.calls.specs.Board.{Identity, Answer, silent, begun, reply, idle, pending}
 use Rattle.calls.specs.Lists.{step, answered, run}
@@ -461,5 +461,6 @@ rowExamples =
     ∷ spells (setParameter 0xF0 0x01 1) eraseSmall
     ∷ begins unusedBytes eraseSmall (set unusedBytes 0 0xE7)
     ∷ replies unusedBytes askTagSmall p8 unusedBytes
+    ∷ spells (tagWrite (0x6D ∷ 0x4A ∷ [])) writeTagSmall
     ∷ replies unusedBytes writeTagSmall tagSmallWritten taggedSmall
     ∷ []

@@ -9,8 +9,8 @@ use Prim.Native.Nat.{ℕ, _+_, _-_, _≤_, _<_}
 use lib.Dec.{leb, ltb, eqb}
 use lib.ListN.{length, set, take, drop, replicate}
 use Rattle.bitfield.specs.Field.{bit, getField}
-use Rattle.wire.specs.Digits.{Bytes, two, SameDigits}
-use Rattle.wire.specs.Packet.{packetWith, requestPacket, over}
+use Rattle.wire.specs.Digits.{Bytes, SameDigits}
+use Rattle.wire.specs.Packet.{packetWith, requestPacket, over, lengthDigits}
 use Rattle.wire.specs.Judge.{isRequestType}
 use Rattle.messages.specs.Message.{ScheduleRequest, ScheduleReply, Request, Reply, IsRequest, IsItem, IsDate}
 use Rattle.messages.specs.Message.ScheduleRequest.{scheduleRead, scheduleWrite, scheduleEnable}
@@ -66,10 +66,11 @@ pub record Exchange (i : Identity) (m : List ℕ) (kind : ℕ) (digits text : Li
       ≡ waits lent m 0 (length text + 10) ++ (answered silent (lent (length text + 10)) m′ ∷ run boardKind i (holding i []) m′ es)
   pub rests : Idle (holding i []) m′
 
--- a request, as it is written, gets x and leaves m′; it shows x and changes nothing
+-- a request, as it is written, gets x and leaves m′
 abbrev pub Asks : Identity → List ℕ → Request → Reply → List ℕ → Type 0
-Asks i m r x m′ = Exchange i m (requestType r) (two (length (requestText r) + 2)) (requestText r) x m′
+Asks i m r x m′ = Exchange i m (requestType r) (lengthDigits (requestText r)) (requestText r) x m′
 
+-- and where it changes nothing, it shows x
 abbrev pub Shows : Identity → List ℕ → Request → Reply → Type 0
 Shows i m r x = Asks i m r x m
 
@@ -333,7 +334,7 @@ pub record Rows (i : Identity) (m : List ℕ) : Type 0 where
   pub former-read : Shows i m (itemRead Item.FormerTag) (itemReply Item.FormerTag (formerTagIn m))
   pub tag-write : (tag : List ℕ) → IsItem tag → Changes i m (tagWrite tag) (tagWriteReply 0 tag) isTagRead mayChangeTags (TagsMoved i m tag)
   -- what spells no request, its length in either case
-  pub other : (kind : ℕ) (digits text : List ℕ) → SameDigits (two (length text + 2)) digits → isRequestType kind ≡ true
+  pub other : (kind : ℕ) (digits text : List ℕ) → SameDigits (lengthDigits text) digits → isRequestType kind ≡ true
       → 2 ≤ length text → length text ≤ 62 → IsOther kind text → Exchange i m kind digits text null m
 
 -- of any board: a reply in which the station reads a refusal leaves every stored byte

@@ -1,4 +1,4 @@
--- DEMAND 2 in C's numbers (docs/RULES.md, 'Demand 2', XC3): what the host program passes to the encoder goes to a board, and what it gets from
+-- DEMAND 2 in C's numbers (docs/RULES.md, 'Demand 2', XC3 and L3): what the host program passes to the encoder goes to a board, and what it gets from
 -- the reader are that board's own values. Kinds, places, pages, codes and ranges are written out; `table`, the board's rows, is Rows.antt's.
 use mathlib.Core.Bool.{Bool, true, false, cond, _&&_}
 use mathlib.Core.List.{List, [], _∷_, _++_}

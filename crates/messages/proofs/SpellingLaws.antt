@@ -1,5 +1,5 @@
 -- A text that spells a message says what the message's own text says: its name is the same, and its digits have the same values.
-use Prim.Native.Nat.{ℕ, zero, suc, _+_, _≤_, _<_}
+use Prim.Native.Nat.{ℕ, zero, suc, _≤_, _<_}
 use mathlib.Core.List.{List, [], _∷_, _++_}
 use mathlib.Core.Logic.{⊎-elim, inl}
 use mathlib.Core.Option.{some}
@@ -8,7 +8,7 @@ use native.Mathlib.Omega.{arith}
 use lib.ListN.{length, take, drop, take-append-drop}
 use lib.Seq.{take-at}
 use Rattle.wire.specs.Digits.{two, four, hexOf, SameDigit, SameDigits}
-use Rattle.wire.specs.Packet.{packet, requestPacket, replyPacket}
+use Rattle.wire.specs.Packet.{packet, requestPacket, replyPacket, lengthDigits}
 use Rattle.wire.proofs.Tests.{and-false}
 use Rattle.wire.proofs.CaseLaws.{same-itself, same-length, same-behind, same-drop, same-two, same-four, same-octets}
 use Rattle.messages.specs.Message.{Request, Reply, IsRequest, IsReply}
@@ -57,13 +57,13 @@ pub request-written : (dest : ℕ) (r : Request) → SpeltRequest dest r (reques
 unfolding packet
 request-written dest r =
     let t = requestText r in
-    record { digits = two (length t + 2); text = t; counted = same-itself (two (length t + 2)); said = spells-itself 0 _ t; whole = refl }
+    record { digits = lengthDigits t; text = t; counted = same-itself (lengthDigits t); said = spells-itself 0 _ t; whole = refl }
 
 pub reply-written : (source : ℕ) (r : Reply) → SpeltReply source r (replyPacket source (replyType r) (replyText r))
 unfolding packet
 reply-written source r =
     let t = replyText r in
-    record { digits = two (length t + 2); text = t; counted = same-itself (two (length t + 2)); said = spells-itself _ _ t; whole = refl }
+    record { digits = lengthDigits t; text = t; counted = same-itself (lengthDigits t); said = spells-itself _ _ t; whole = refl }
 
 -- ---- the fields of a text
 

@@ -1,10 +1,10 @@
 -- Texts and packets as they may come (docs/RULES.md, 'Packets', PK3, L1 and L2, and 'Demand 2', L3): each digit in either case, names as they are written.
 use mathlib.Core.List.{List}
 use mathlib.Core.Path.{_≡_}
-use Prim.Native.Nat.{ℕ, _+_}
-use lib.ListN.{length, take, drop}
-use Rattle.wire.specs.Digits.{two, SameDigits}
-use Rattle.wire.specs.Packet.{zeroByte, packetWith}
+use Prim.Native.Nat.{ℕ}
+use lib.ListN.{take, drop}
+use Rattle.wire.specs.Digits.{SameDigits}
+use Rattle.wire.specs.Packet.{zeroByte, packetWith, lengthDigits}
 use Rattle.messages.specs.Message.{Request, Reply}
 use Rattle.messages.specs.Message.Request.{getParameter, setParameter, powerRead, powerControl, dateRead, dateWrite, itemRead, tagWrite, schedule}
 use Rattle.messages.specs.Message.Reply.{null, getReply, setReply, powerReadReply, powerControlReply, dateReadReply, dateWriteReply, itemReply, tagWriteReply, scheduleReply}
@@ -55,7 +55,7 @@ replyNamePlace (itemReply i bytes) = 0
 replyNamePlace (tagWriteReply status tag) = 0
 replyNamePlace (scheduleReply r) = 0
 
--- a text that says a request, and one that says a reply
+-- a text that spells a request, and one that spells a reply
 abbrev pub SpellsRequest : Request → List ℕ → Type 0
 SpellsRequest r t = Spells 0 (nameLength r) (requestText r) t
 
@@ -68,11 +68,11 @@ SpellsReply r t = Spells (replyNamePlace r) (replyNameLength r) (replyText r) t
 pub record SpeltPacket (dest source kind : ℕ) (Is : List ℕ → Type 0) (p : List ℕ) : Type 0 where
   pub digits : List ℕ
   pub text : List ℕ
-  pub counted : SameDigits (two (length text + 2)) digits
+  pub counted : SameDigits (lengthDigits text) digits
   pub said : Is text
   pub whole : p ≡ packetWith dest source kind digits text
 
--- a packet to an address that says a request, and one from an address that says a reply
+-- a packet that spells a request, sent to an address, and one that spells a reply, sent from an address
 abbrev pub SpeltRequest : ℕ → Request → List ℕ → Type 0
 SpeltRequest dest r p = SpeltPacket dest zeroByte (requestType r) (SpellsRequest r) p
 

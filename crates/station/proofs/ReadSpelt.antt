@@ -6,8 +6,8 @@ use mathlib.Core.Path.{_≡_, refl, sym, _∙_, subst}
 use Prim.Native.Nat.{ℕ, _+_, _-_, _≤_}
 use native.Mathlib.Omega.{arith}
 use lib.ListN.{length, getD}
-use Rattle.wire.specs.Digits.{two, SameDigits}
-use Rattle.wire.specs.Packet.{zeroByte, packetWith, size}
+use Rattle.wire.specs.Digits.{SameDigits}
+use Rattle.wire.specs.Packet.{zeroByte, packetWith, size, lengthDigits}
 use Rattle.wire.proofs.CaseLaws.{same-length}
 use Rattle.wire.proofs.PacketLaws.{packet-length, size-packet, text-packet, packet-limits, packet-returns, packet-checks, packet-message}
 use Rattle.messages.specs.Message.{Reply, IsReply}
@@ -47,7 +47,7 @@ module _ (id kind : ℕ) (digits text : List ℕ) where
   unfolding packetWith
   sent-kind = refl
 
-  module _ (counted : SameDigits (two (length text + 2)) digits) (least : 2 ≤ length text) (most : length text ≤ 62) where
+  module _ (counted : SameDigits (lengthDigits text) digits) (least : 2 ≤ length text) (most : length text ≤ 62) where
     sent-whole : isWholeLength sent ≡ true
     unfolding isWholeLength
     sent-whole =
@@ -56,7 +56,7 @@ module _ (id kind : ℕ) (digits text : List ℕ) where
         rw (packet-limits zeroByte (0x40 + id) kind digits text counted most least, eq-eqb (size sent) (length sent) (sized ∙ sym long))
 
 module _ (id : ℕ) (r : Reply) (first : 1 ≤ id) (last : id ≤ 8) (h : IsReply r) where
-  text-read : (digits text : List ℕ) → SameDigits (two (length text + 2)) digits → SpellsReply r text
+  text-read : (digits text : List ℕ) → SameDigits (lengthDigits text) digits → SpellsReply r text
       → readPacket (packetWith zeroByte (0x40 + id) (replyType r) digits text) ≡ reply id r
   unfolding readPacket replyVerdict replyInMessage
   text-read digits text counted said =

@@ -1,4 +1,4 @@
--- A packet that the reader takes spells the reply that it reads: but for the letter case of digits, and the check code over them, it is that reply's packet.
+-- A packet that the reader takes spells the reply that it reads: it is that reply's packet but for the case of digits, with the check code of its own bytes.
 use borrow.Author.Tests.{eqb-true}
 use mathlib.Core.Bool.{Bool, true, false, cond}
 use mathlib.Core.List.{List, [], _∷_, _++_}

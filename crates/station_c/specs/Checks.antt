@@ -123,6 +123,6 @@ pub record Refusals : Type 0 where
   pub most : (first : List ℕ) → replySize first ≤ 73
   pub framed : (numbers bytes : ℕ) (p : List ℕ) (id : ℕ) (r : Reply) → readInto numbers bytes p ≡ read.reply id r
       → (n : ℕ) → 7 ≤ n → n ≤ length p → replySize (take n p) ≡ length p
-  -- and it spells the reply that is read, sent by the monitor that is told: its packet, but for the letter case of digits and the check code over them
+  -- and it spells the reply that is read, sent by the monitor that is told: that reply's packet but for the case of digits, with the check code of its own bytes
   pub written : (numbers bytes : ℕ) (p : List ℕ) (id : ℕ) (r : Reply) → readInto numbers bytes p ≡ read.reply id r
       → IsReply r × ((1 ≤ id) × (id ≤ 8)) × SpeltReply (0x40 + id) r p

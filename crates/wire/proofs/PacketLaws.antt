@@ -10,8 +10,8 @@ use borrow.Author.Tests.{le-leb, leb-true, eq-eqb}
 use lib.Dec.{leb, eqb}
 use lib.ListN.{length, take, drop, set, getD, length-append, length-drop, List·getD-append}
 use lib.Seq.{paste, take-at, take-length, drop-append-add, drop-drop, set-at, drop-cons, append-snoc, getD-append-add}
-use Rattle.wire.specs.Digits.{two, twoAt, SameDigits}
-use Rattle.wire.specs.Packet.{soh, stx, etx, cr, zeroByte, xorOf, covered, packetWith, packet, over, sizeFrom, size, checkCode, packetText}
+use Rattle.wire.specs.Digits.{twoAt, SameDigits}
+use Rattle.wire.specs.Packet.{soh, stx, etx, cr, zeroByte, xorOf, covered, packetWith, packet, over, sizeFrom, size, checkCode, packetText, lengthDigits}
 use Rattle.wire.specs.Judge.{Verdict, good, refused, isRequestType, inLimits, isLength, headerVerdict, endsInReturn, hasCheckCode, isMessage, packetVerdict}
 use Rattle.wire.proofs.Tests.{both}
 use Rattle.wire.proofs.DigitLaws.{two-back, two-at-append}
@@ -64,9 +64,9 @@ module _ (dest source kind : ℕ) (digits text : List ℕ) where
   packet-parts = simp append-assoc
 
   -- with length digits that count the text, STX and ETX, in either case
-  module _ (counted : SameDigits (two (length text + 2)) digits) where
+  module _ (counted : SameDigits (lengthDigits text) digits) where
     pair : length digits ≡ 2
-    pair = same-length (two (length text + 2)) digits counted
+    pair = same-length (lengthDigits text) digits counted
 
     pub packet-length : length whole ≡ length text + 11
     unfolding packetWith
@@ -83,7 +83,7 @@ module _ (dest source kind : ℕ) (digits text : List ℕ) where
           let first = soh ∷ zeroByte ∷ dest ∷ source ∷ kind ∷ [] in
           let text-on = stx ∷ (text ++ (etx ∷ [])) in
           let last = xorOf cover ∷ cr ∷ [] in
-          let written = two (length text + 2) in
+          let written = lengthDigits text in
           let message = same-append written digits text-on text-on counted (same-itself text-on) in
           let all = same-append (written ++ text-on) (digits ++ text-on) last last message (same-itself last) in
           same-two _ whole (same-append first first _ _ (same-itself first) all) 5 ∙ two-back (length text + 2) (omega arith)
@@ -134,28 +134,28 @@ module _ (dest source kind : ℕ) (digits text : List ℕ) where
       unfolding packetVerdict
       packet-good = rw (packet-returns, packet-checks, packet-message)
 
-module _ (dest kind : ℕ) (digits text : List ℕ) (counted : SameDigits (two (length text + 2)) digits) where
+module _ (dest kind : ℕ) (digits text : List ℕ) (counted : SameDigits (lengthDigits text) digits) where
   pub header-packet : isRequestType kind ≡ true → 2 ≤ length text → length text ≤ 62 → headerVerdict (packetWith dest zeroByte kind digits text) ≡ good
   unfolding headerVerdict packetWith
   header-packet k least most = rw (k, packet-limits dest zeroByte kind digits text counted most least)
 
 -- ---- a packet as it is written
 
-pub written-counted : (text : List ℕ) → SameDigits (two (length text + 2)) (two (length text + 2))
-written-counted text = same-itself (two (length text + 2))
+pub written-counted : (text : List ℕ) → SameDigits (lengthDigits text) (lengthDigits text)
+written-counted text = same-itself (lengthDigits text)
 
 module _ (dest source kind : ℕ) (text : List ℕ) where
   pub written-length : length (packet dest source kind text) ≡ length text + 11
   unfolding packet
-  written-length = packet-length dest source kind (two (length text + 2)) text (written-counted text)
+  written-length = packet-length dest source kind (lengthDigits text) text (written-counted text)
 
   pub written-size : length text ≤ 62 → size (packet dest source kind text) ≡ length text + 11
   unfolding packet
-  written-size = size-packet dest source kind (two (length text + 2)) text (written-counted text)
+  written-size = size-packet dest source kind (lengthDigits text) text (written-counted text)
 
   pub written-text : length text ≤ 62 → packetText (packet dest source kind text) ≡ text
   unfolding packet
-  written-text = text-packet dest source kind (two (length text + 2)) text (written-counted text)
+  written-text = text-packet dest source kind (lengthDigits text) text (written-counted text)
 
 -- ---- what is behind the header leaves its verdict alone
 

@@ -97,9 +97,13 @@ unfoldable pub packetWith : ℕ → ℕ → ℕ → List ℕ → List ℕ → Li
 packetWith dest source kind digits text =
     soh ∷ (covered dest source kind digits text ++ (xorOf (covered dest source kind digits text) ∷ cr ∷ []))
 
--- as it is written: the length digits count the text, STX and ETX
+-- the length digits of a text count it, STX and ETX
+abbrev pub lengthDigits : List ℕ → List ℕ
+lengthDigits text = two (length text + 2)
+
+-- a packet as it is written
 unfoldable pub packet : ℕ → ℕ → ℕ → List ℕ → List ℕ
-packet dest source kind text = packetWith dest source kind (two (length text + 2)) text
+packet dest source kind text = packetWith dest source kind (lengthDigits text) text
 
 -- a request comes from the station, a reply goes to it
 abbrev pub requestPacket : ℕ → ℕ → List ℕ → List ℕ

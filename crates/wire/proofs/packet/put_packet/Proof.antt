@@ -6,8 +6,7 @@ use native.Mathlib.Omega.{arith}
 use borrow.Author.Needs.{needs}
 use lib.ListN.{length, take, drop, set, length-append, length-set}
 use lib.Seq.{paste, take-at}
-use Rattle.wire.specs.Digits.{two}
-use Rattle.wire.specs.Packet.{soh, etx, cr, over, packetWith, packet, covered, xorOf}
+use Rattle.wire.specs.Packet.{soh, etx, cr, over, packetWith, packet, covered, xorOf, lengthDigits}
 use Rattle.wire.specs.Inner.{header, Fits}
 use Rattle.wire.proofs.PacketLaws.{over-paste, over-set, front, written-length}
 use Rattle.wire.proofs.packet.put_packet.Statement.{statement}
@@ -15,23 +14,23 @@ use Rattle.wire.proofs.packet.put_packet.Tie as tie
 
 module _ (o text : List ℕ) (dest source kind : ℕ) where
   abbrev sealed : List ℕ
-  sealed = soh ∷ covered dest source kind (two (length text + 2)) text
+  sealed = soh ∷ covered dest source kind (lengthDigits text) text
 
   sized : length text + 11 ≡ length (packet dest source kind text)
   sized = sym (written-length dest source kind text)
 
-  texted : paste (over (header dest source kind (length text)) o) 8 text (length text) ≡ over (front dest source kind (two (length text + 2)) text) o
+  texted : paste (over (header dest source kind (length text)) o) 8 text (length text) ≡ over (front dest source kind (lengthDigits text) text) o
   texted = over-paste (header dest source kind (length text)) o 8 refl text
 
-  checked : take (length text + 9 - 1) (drop 1 (over sealed o)) ≡ covered dest source kind (two (length text + 2)) text
+  checked : take (length text + 9 - 1) (drop 1 (over sealed o)) ≡ covered dest source kind (lengthDigits text) text
   unfolding over
-  checked = take-at (covered dest source kind (two (length text + 2)) text) _ (length text + 9 - 1) (simp length-append (omega arith))
+  checked = take-at (covered dest source kind (lengthDigits text) text) _ (length text + 9 - 1) (simp length-append (omega arith))
 
   module _ (room : length text + 11 ≤ length o) where
-    ended : set (over (front dest source kind (two (length text + 2)) text) o) (length text + 8) etx ≡ over sealed o
-    ended = over-set (front dest source kind (two (length text + 2)) text) o (length text + 8) (omega arith) etx (omega arith)
+    ended : set (over (front dest source kind (lengthDigits text) text) o) (length text + 8) etx ≡ over sealed o
+    ended = over-set (front dest source kind (lengthDigits text) text) o (length text + 8) (omega arith) etx (omega arith)
 
-    closed : (code : ℕ) → code ≡ xorOf (covered dest source kind (two (length text + 2)) text)
+    closed : (code : ℕ) → code ≡ xorOf (covered dest source kind (lengthDigits text) text)
         → set (set (over sealed o) (length text + 9) code) (length text + 10) cr ≡ over (packet dest source kind text) o
     unfolding packet packetWith
     closed code e =
@@ -46,7 +45,7 @@ module _ (o text : List ℕ) (dest source kind : ℕ) where
       → o₂ ≡ paste o₁ 8 text (length text) → o₁ ≡ over (header dest source kind (length text)) o
       → set (set (set o₂ (length text + 8) etx) (length text + 9) code) (length text + 10) cr ≡ over (packet dest source kind text) o
   steps fits code o₂ o₁ checks texts heads =
-      let f : o₂ ≡ over (front dest source kind (two (length text + 2)) text) o = texts ∙ rw heads texted in
+      let f : o₂ ≡ over (front dest source kind (lengthDigits text) text) o = texts ∙ rw heads texted in
       let g : set o₂ (length text + 8) etx ≡ over sealed o = rw f (ended (fits .room)) in
       rw g (closed (fits .room) code (checks ∙ rw (g, checked)))
 
