@@ -102,8 +102,8 @@ uint8_t board_start(uint8_t id, const uint8_t *serial, size_t serial_len, const 
                     size_t store_len, uint8_t *state, size_t state_len);
 
 /*
- * Gives the board one byte from the line. The digits of a packet may come in either case, its type and its name in capitals; the
- * digits of a reply are in capitals.
+ * Gives the board one byte from the line. The digits of a packet may come in either case, its address, its type and its name in
+ * capitals; the digits of a reply are in capitals.
  *
  *   state, state_len    the state that the last call left
  *   store, store_len    the store that the last call left

@@ -146,8 +146,9 @@ uint8_t station_encode_schedule_write(uint16_t dest, uint8_t program, uint8_t on
 uint8_t station_encode_schedule_enable(uint16_t dest, uint8_t program, uint8_t enable, uint8_t *out, size_t out_len, size_t *size);
 
 /*
- * Where a reply ends: how many bytes a packet has whose first bytes these are, 13 to STATION_REPLY_MOST. It is L + 9
- * for the length digits L in either case, first[5] and first[6]; a CR, 03h or 01h before the end is a byte like others, for a check code may be one.
+ * Where a reply ends: how many bytes a packet has whose first bytes these are, 13 to STATION_REPLY_MOST. It is L + 9 for the length
+ * digits L, first[5] and first[6], in either case; a CR, 03h or 01h before the end is a byte like others, for a check code may be
+ * one.
  *
  * 0 while there are fewer than STATION_HEADER_BYTES, and from then on where the length digits are bad or outside 4 to 64: nothing
  * tells then where the packet ends. No other byte is looked at, so a packet that is no reply has its length too.
@@ -156,7 +157,7 @@ size_t station_reply_size(const uint8_t *first, size_t first_len);
 
 /*
  * The reader: takes one whole packet apart, with nothing around it; station_reply_size tells where it ends. Its digits may be in
- * either case, its type and its name are in capitals.
+ * either case; its source, its type and its name are in capitals.
  *
  *   packet, packet_len      the packet
  *   numbers, numbers_len    the place for the reply's numbers, of at least STATION_NUMBERS_ROOM

@@ -12,7 +12,7 @@ fn proved(recording: &[u8]) -> (u64, u64) {
     (packets, refused)
 }
 
-// A plain receiver, written from document 01 by itself.
+// A plain receiver, written from document 01 and, for digits, document 02 by itself.
 struct Plain {
     held: [u8; 73],
     len: usize,

@@ -1,6 +1,7 @@
 /*
- * Tries every function of board.h. What is expected is worked out here from document 01, and of programs, marks and days from
- * document 02. The C library says which days there are, and their weekdays.
+ * Tries every function of board.h. What is expected is worked out here from document 01, and of programs, marks, days and digits
+ * from document 02; of a request in small letters it is what the same request in capitals did. The C library says which days there
+ * are, and their weekdays.
  *
  * No sanitizer sees into the library, so in one round every buffer lent to it begins right behind a page that may not be touched,
  * and in another it ends right before one: a read or a write there ends the program. What lies on the other side is compared.

@@ -1045,7 +1045,7 @@ static struct request random_set(void)
     const struct setting *setting = &settings[below(COUNT(settings))];
     unsigned pair = one_in(16) ? below(0x10000) : setting->pair;
 
-    return request_of('E', "%04X%04X", pair, below(one_in(8) ? 0x10000 : setting->largest + 3));
+    return request_of('E', one_in(4) ? "%04x%04x" : "%04X%04X", pair, below(one_in(8) ? 0x10000 : setting->largest + 3));
 }
 
 static struct request random_power(void)
@@ -1076,7 +1076,7 @@ static struct request random_tag(void)
     if (digits > 0 && one_in(16))
         digits--;
     for (size_t i = 0; i < digits; i++)
-        request.text[4 + i] = "0123456789ABCDEF"[below(16)];
+        request.text[4 + i] = "0123456789ABCDEFabcdef"[below(22)];
     return request;
 }
 

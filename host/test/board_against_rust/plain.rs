@@ -1,4 +1,4 @@
-// The board in plain Rust, written from document 01 ('Packet' to 'Erase') and document 02 (schedules, days) by itself. It
+// The board in plain Rust, written from document 01 ('Packet' to 'Erase') and document 02 (schedules, days, digits) by itself. It
 // needs no standard library.
 
 pub const STORE: usize = 128;

@@ -1,5 +1,5 @@
 // Encoder and reader in plain Rust, written from document 01 ('Packet', 'What a good packet does', 'Station') and document 02
-// (schedules, days) by itself.
+// (schedules, days, digits) by itself.
 
 use std::sync::OnceLock;
 
