@@ -1,4 +1,6 @@
 // What a request does: a decision on the store as it is.
+#![tactic(auto)]
+
 ghost use Rattle.std.specs.Prelude.{cond, [], ◌≡◌, ◌≤◌, eqb, take};
 ghost use Rattle.std.proofs.Math.Option.{some};
 ghost use Rattle.plan.specs.Plans.{stores_of};

@@ -1,3 +1,5 @@
 // The board: the calls start, byte, gap and step.
+#![tactic(auto)]
+
 pub mod board;
 pub mod sound;

@@ -1,4 +1,6 @@
 // The calendar: days and weekdays of 2000 to 2099, and the dates that a date write accepts.
+#![tactic(auto)]
+
 ghost use Rattle.std.specs.Prelude.{true, ◌≡◌, ◌≤◌};
 ghost use Rattle.calendar.specs.Calendar.{is_leap, days_in, is_day, before_year, before_month, weekday_of, is_accepted};
 

@@ -1,4 +1,6 @@
 // What every kind of board shares in code: the entry check, and the test of the bytes that an erase has cleared.
+#![tactic(auto)]
+
 ghost use Rattle.std.specs.Prelude.{◌≡◌, ◌≤◌, length};
 ghost use Rattle.calls.specs.Calls.{first_bytes, same, entry_check};
 ghost use Rattle.wire.specs.Refusal.{number_of};

@@ -1,4 +1,6 @@
 // Edges of the rules: each case a line with its name, then what an unused board answers.
+#![tactic(auto)]
+
 ghost use Rattle.std.specs.Prelude.{◌<◌, length};
 
 use board::board::{Answer, Board, StartAnswer};

@@ -1,4 +1,6 @@
 // The whole store: its marks, an unused board's bytes, whether a store is in range, and what a start on an older layout stores.
+#![tactic(auto)]
+
 ghost use Rattle.std.specs.Prelude.{true, ◌≡◌, length, get_or};
 ghost use Rattle.plan.specs.Plans.{stores_of};
 ghost use Rattle.layouts.specs.Layouts.{older_mark, is_layout, fits_layout, conversion, unused_store};

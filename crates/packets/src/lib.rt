@@ -1,4 +1,6 @@
 // What a good packet stores, as a plan, and the reply that it gets.
+#![tactic(auto)]
+
 ghost use Rattle.std.specs.Prelude.{[], ◌∷◌, ◌≡◌, ◌≤◌, length, get_or, take};
 ghost use Rattle.wire.specs.Inner.{Whole};
 ghost use Rattle.wire.specs.Packet.{most_id, least_buffer, over, packet_text};

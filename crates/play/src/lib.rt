@@ -1,4 +1,6 @@
 // Lists of calls and power cuts, played on a board by its real calls, with all that is seen of them.
+#![tactic(auto)]
+
 ghost use Rattle.std.specs.Prelude.{◌∷◌, ◌≡◌, ◌+◌, ◌≤◌, ltb, length};
 ghost use Rattle.wire.specs.Packet.{over};
 ghost use Rattle.board.specs.View.{state_of, answer_of, given_identity};

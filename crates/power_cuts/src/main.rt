@@ -1,5 +1,7 @@
 // An erase that loses its power twice, and what comes after it on the same board: from its acceptance on all calls and cuts are one list,
 // played in one call. What comes after is then played alone on an unused board, and compared.
+#![tactic(auto)]
+
 ghost use Rattle.std.specs.Prelude.{◌≡◌, ◌≤◌, length};
 
 use board::board::Board;

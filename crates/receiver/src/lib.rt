@@ -1,4 +1,6 @@
 // How bytes become a packet.
+#![tactic(auto)]
+
 ghost use Rattle.std.specs.Prelude.{true, ◌≡◌, ◌+◌, ◌≤◌, length, take};
 ghost use Rattle.receiver.specs.Receive.{accept, grown, is_proper_beginning, on_byte, on_gap};
 ghost use Rattle.receiver.specs.View.{held_of, reception_in, WholeOf, receipt, empty_receiver, emptied, receiver_after};

@@ -1,4 +1,6 @@
 // A recording of a line, played to an empty receiver and counted: what is measured for speed.
+#![tactic(auto)]
+
 ghost use Rattle.std.specs.Prelude.{[], ◌≡◌, ◌<◌, take};
 ghost use Rattle.receiver.specs.Receive.{accept, answers_to};
 ghost use Rattle.recording.specs.Recording.{wholes, refusals};

@@ -1,4 +1,6 @@
 // Bytes from standard input, given to an unused board of ID 1 with no serial number and no model; a line for each answer.
+#![tactic(auto)]
+
 ghost use Rattle.std.specs.Prelude.{false, ◌≡◌, suc, ◌≤◌, ◌<◌, length};
 ghost use Rattle.replay.specs.Sessions.{largest, next_after, goes_on, counted_on, AreCounted, IsAfterRead};
 

@@ -1,2 +1,4 @@
 // The reply that a text holds.
+#![tactic(auto)]
+
 pub mod read;

@@ -1,4 +1,6 @@
 // The fields of a text.
+#![tactic(auto)]
+
 ghost use Rattle.std.specs.Prelude.{◌≡◌, ◌+◌, ◌<◌, length};
 ghost use Rattle.wire.specs.Digits.{octet, FindsOctets};
 ghost use Rattle.messages.specs.Read.{begins_with, is_name, flag_at, mode_at, date_in, numbers_in};
