@@ -30,14 +30,14 @@ pub const ERASE_PAGE: u8 = 0xF0;
 pub const ERASE_CODE: u8 = 0x01;
 
 // A reply, or the beginning of an erase.
-#[derive(Drop)]
+#[derive(Clone, Copy)]
 pub enum Effect {
     Replies(Reply),
     Begins,
 }
 
 // What a request does: its effect, what it stores, and the bytes that go with the reply.
-#[derive(Drop)]
+#[derive(Clone, Copy)]
 pub struct Decision {
     pub effect: Effect,
     pub plan: Plan,

@@ -31,7 +31,7 @@ use wire::packet;
 use wire::refusal::Refusal;
 
 // No erase pending; or one, with its next place and whether its last step owes the reply.
-#[derive(Drop)]
+#[derive(Clone, Copy)]
 pub enum Erase {
     Idle,
     Pending(u8, bool),
@@ -69,7 +69,7 @@ impl Erase {
     }
 }
 
-#[derive(Drop)]
+#[derive(Clone, Copy)]
 pub struct Board {
     pub id: u8,
     pub serial: ItemBytes,
@@ -78,7 +78,7 @@ pub struct Board {
     pub erase: Erase,
 }
 
-#[derive(Drop)]
+#[derive(Clone, Copy)]
 pub enum Answer {
     Waiting,
     Silent,
@@ -107,34 +107,34 @@ impl Answer {
 }
 
 // The next board, with the answer.
-#[derive(Drop)]
+#[derive(Clone, Copy)]
 pub struct Done {
     pub board: Board,
     pub answer: Answer,
 }
 
 // The same before anything is stored, with the plan of what is.
-#[derive(Drop)]
+#[derive(Clone, Copy)]
 pub struct Planned {
     pub board: Board,
     pub answer: Answer,
     pub plan: Plan,
 }
 
-#[derive(Drop)]
+#[derive(Clone, Copy)]
 pub enum StartAnswer {
     Ready,
     Refused(Refusal),
 }
 
-#[derive(Drop)]
+#[derive(Clone, Copy)]
 enum StartState {
     Refused(Refusal),
     Ready(Erase),
 }
 
 // A board, or a refusal; with a refusal the board is the one value that every call refuses.
-#[derive(Drop)]
+#[derive(Clone, Copy)]
 pub struct Started {
     pub answer: StartAnswer,
     pub board: Board,

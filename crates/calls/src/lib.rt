@@ -13,7 +13,7 @@ use wire::refusal::Refusal;
 pub const ERASE_MARK: u8 = 0xE7;
 
 // What the entry check comes to: one of two refusals, or whether an erase is pending.
-#[derive(Drop)]
+#[derive(Clone, Copy)]
 pub enum EntryCheck {
     ShortBuffer,
     Unsound,

@@ -14,7 +14,7 @@ use crate::message::{
 use wire::{digits, packet};
 
 // The type of a message and the length of its text.
-#[derive(Drop)]
+#[derive(Clone, Copy)]
 pub struct Written {
     pub kind: u8,
     pub length: usize,

@@ -26,7 +26,7 @@ use store::contents::ItemBytes;
 use wire::packet;
 
 // Whom a destination addresses.
-#[derive(Drop)]
+#[derive(Clone, Copy)]
 pub enum Addressee {
     Own,
     All,
@@ -34,7 +34,7 @@ pub enum Addressee {
 }
 
 // What a packet brings about.
-#[derive(Drop)]
+#[derive(Clone, Copy)]
 pub enum Acted {
     Refused,
     Silent,
@@ -43,7 +43,7 @@ pub enum Acted {
 }
 
 // The same, with the plan of what it stores.
-#[derive(Drop)]
+#[derive(Clone, Copy)]
 pub struct Planned {
     pub acted: Acted,
     pub plan: Plan,

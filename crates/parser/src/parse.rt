@@ -12,14 +12,14 @@ use wire::digits::{Count, Octet, Word};
 use wire::{digits, packet};
 
 // A request, or anything else.
-#[derive(Drop)]
+#[derive(Clone, Copy)]
 pub enum Parsed {
     Request(Request),
     Other,
 }
 
 // What was parsed, with the bytes of a tag or a schedule's numbers.
-#[derive(Drop)]
+#[derive(Clone, Copy)]
 pub struct ParsedRequest {
     pub parsed: Parsed,
     pub bytes: [u8; 16],

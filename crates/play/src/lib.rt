@@ -14,7 +14,7 @@ use board::board::{Answer, Board, Done, StartAnswer};
 use wire::refusal::Refusal;
 
 // What is seen of an event.
-#[derive(Drop)]
+#[derive(Clone, Copy)]
 pub enum Seen {
     Answered(Answer),
     Started,
@@ -22,14 +22,14 @@ pub enum Seen {
 }
 
 // What is seen of an event, and the board after it.
-#[derive(Drop)]
+#[derive(Clone, Copy)]
 pub struct Turn {
     pub board: Board,
     pub seen: Seen,
 }
 
 // The board after the first event, how many bytes of what is lent it had, and whether events may come after it.
-#[derive(Drop)]
+#[derive(Clone, Copy)]
 pub struct First {
     pub board: Board,
     pub part: usize,

@@ -19,7 +19,7 @@ pub const HEADER: u8 = 7;
 const SIZED: u8 = 12;
 
 // What a byte brings about. A whole packet is the first bytes of the array, as many as it counts.
-#[derive(Drop)]
+#[derive(Clone, Copy)]
 pub enum Reception {
     Waiting,
     Refused(Refusal),
@@ -39,14 +39,14 @@ impl Reception {
 }
 
 // The held bytes: the first of the array, as many as len says.
-#[derive(Drop)]
+#[derive(Clone, Copy)]
 pub struct Receiver {
     pub held: [u8; packet::MOST_PACKET],
     pub len: u8,
 }
 
 // The next receiver, with the answer.
-#[derive(Drop)]
+#[derive(Clone, Copy)]
 pub struct Received {
     pub receiver: Receiver,
     pub answer: Reception,

@@ -10,7 +10,7 @@ use receiver::Reception;
 use wire::packet;
 
 // How many bytes are held and asked for, and the counts so far.
-#[derive(Drop)]
+#[derive(Clone, Copy)]
 pub struct Tally {
     pub len: u8,
     pub asked: u8,

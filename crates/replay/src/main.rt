@@ -9,7 +9,7 @@ use transcript::feed;
 use transcript::feed::Given;
 
 // What comes after a read: another one, or the end of the session and why.
-#[derive(Drop)]
+#[derive(Clone, Copy)]
 pub enum Next {
     Read,
     InputEnded,
@@ -18,7 +18,7 @@ pub enum Next {
 }
 
 // The board, how many bytes it was given, how many reads were made, and what comes next.
-#[derive(Drop)]
+#[derive(Clone, Copy)]
 pub struct Session {
     pub board: Board,
     pub at: u64,
@@ -27,7 +27,7 @@ pub struct Session {
 }
 
 // The board and the number of bytes it was given, and whether their lines could be written.
-#[derive(Drop)]
+#[derive(Clone, Copy)]
 pub struct Told {
     pub board: Board,
     pub at: u64,
@@ -35,7 +35,7 @@ pub struct Told {
 }
 
 // How much of a buffer is used, and whether what was taken out of it could be written.
-#[derive(Drop)]
+#[derive(Clone, Copy)]
 pub struct Room {
     pub used: usize,
     pub written: bool,

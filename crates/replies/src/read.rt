@@ -14,14 +14,14 @@ use wire::refusal::Refusal;
 use wire::{digits, packet};
 
 // A reply, or why there is none.
-#[derive(Drop)]
+#[derive(Clone, Copy)]
 pub enum ReplyOrRefusal {
     Reply(Reply),
     Refused(Refusal),
 }
 
 // What was read, with the bytes of a serial number, a model or a tag, or a schedule's numbers.
-#[derive(Drop)]
+#[derive(Clone, Copy)]
 pub struct TextReading {
     pub answer: ReplyOrRefusal,
     pub bytes: [u8; 16],

@@ -14,14 +14,14 @@ use wire::refusal::Refusal;
 use wire::{digits, packet};
 
 // One monitor, or all.
-#[derive(Drop)]
+#[derive(Clone, Copy)]
 pub enum Destination {
     Id(u16),
     All,
 }
 
 // The length of the packet, or why there is none.
-#[derive(Drop)]
+#[derive(Clone, Copy)]
 pub enum Encoded {
     Length(usize),
     Refused(Refusal),
@@ -35,7 +35,7 @@ const MOST_ID: u16 = packet::MOST_ID as u16;
 const ADDRESS_BASE: u16 = packet::ADDRESS_BASE as u16;
 
 // The address byte of a destination; a number that is no monitor's ID has none.
-#[derive(Drop)]
+#[derive(Clone, Copy)]
 pub enum Address {
     Byte(u8),
     Unknown,

@@ -19,7 +19,7 @@ const LEAST_SOURCE: u8 = packet::ADDRESS_BASE + packet::LEAST_ID;
 const MOST_SOURCE: u8 = packet::ADDRESS_BASE + packet::MOST_ID;
 
 // What was read, the sender's ID, and the bytes of a serial number, a model or a tag, or a schedule's numbers.
-#[derive(Drop)]
+#[derive(Clone, Copy)]
 pub struct PacketReading {
     pub answer: ReplyOrRefusal,
     pub sender: u8,

@@ -13,7 +13,7 @@ use station::read;
 use wire::digits;
 
 // A reply as its kind, its numbers with the sender's ID first, and how many bytes stand beside it.
-#[derive(Drop)]
+#[derive(Clone, Copy)]
 pub struct Listed {
     pub kind: u8,
     pub count: usize,

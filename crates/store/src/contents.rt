@@ -18,7 +18,7 @@ const TAG: usize = 12;
 const FORMER_TAG: usize = 28;
 
 // Bytes of a tag, the first of the array, as many as count says.
-#[derive(Drop)]
+#[derive(Clone, Copy)]
 pub struct ItemBytes {
     pub bytes: [u8; 16],
     pub count: u8,

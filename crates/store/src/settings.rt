@@ -13,14 +13,14 @@ use plan::Plan;
 const SETTINGS: usize = 8;
 
 // The values that a Set takes: all those of a range, or the inputs.
-#[derive(Drop)]
+#[derive(Clone, Copy)]
 pub enum Values {
     Range { least: u16, most: u16 },
     Inputs,
 }
 
 // The fixed numbers of a setting: page and code, the values, the largest of them, the unused value, and the place of its field.
-#[derive(Drop)]
+#[derive(Clone, Copy)]
 pub struct Row {
     pub page: u8,
     pub code: u8,
@@ -32,7 +32,7 @@ pub struct Row {
 }
 
 // What stands at a page and a code.
-#[derive(Drop)]
+#[derive(Clone, Copy)]
 pub enum Found {
     Listed(Row),
     Unlisted,
@@ -211,7 +211,7 @@ pub fn in_range(store: &[u8]) -> bool
     all
 }
 
-#[derive(Drop)]
+#[derive(Clone, Copy)]
 pub struct Backlight;
 
 impl Backlight {
@@ -242,7 +242,7 @@ impl Backlight {
     }
 }
 
-#[derive(Drop)]
+#[derive(Clone, Copy)]
 pub struct Input;
 
 impl Input {
@@ -315,7 +315,7 @@ impl Input {
     }
 }
 
-#[derive(Drop)]
+#[derive(Clone, Copy)]
 pub struct Balance;
 
 impl Balance {
@@ -346,7 +346,7 @@ impl Balance {
     }
 }
 
-#[derive(Drop)]
+#[derive(Clone, Copy)]
 pub struct PipH;
 
 impl PipH {
@@ -377,7 +377,7 @@ impl PipH {
     }
 }
 
-#[derive(Drop)]
+#[derive(Clone, Copy)]
 pub struct PipV;
 
 impl PipV {
@@ -408,7 +408,7 @@ impl PipV {
     }
 }
 
-#[derive(Drop)]
+#[derive(Clone, Copy)]
 pub struct AmbientLow;
 
 impl AmbientLow {
@@ -439,7 +439,7 @@ impl AmbientLow {
     }
 }
 
-#[derive(Drop)]
+#[derive(Clone, Copy)]
 pub struct AmbientHigh;
 
 impl AmbientHigh {
@@ -470,7 +470,7 @@ impl AmbientHigh {
     }
 }
 
-#[derive(Drop)]
+#[derive(Clone, Copy)]
 pub struct Tile;
 
 impl Tile {

@@ -11,19 +11,19 @@ use messages::message::{Date, PowerMode, Status};
 use wire::digits;
 use wire::digits::{Count, Octet, Octets, Word};
 
-#[derive(Drop)]
+#[derive(Clone, Copy)]
 pub enum StatusField {
     Is(Status),
     Bad,
 }
 
-#[derive(Drop)]
+#[derive(Clone, Copy)]
 pub enum ModeField {
     Is(PowerMode),
     Bad,
 }
 
-#[derive(Drop)]
+#[derive(Clone, Copy)]
 pub enum DateField {
     Is(Date),
     Bad,

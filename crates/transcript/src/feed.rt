@@ -8,7 +8,7 @@ use crate::line;
 use board::board::{Answer, Board, Done};
 
 // The board after a byte, and how long the lines are.
-#[derive(Drop)]
+#[derive(Clone, Copy)]
 pub struct Given {
     pub board: Board,
     pub length: usize,

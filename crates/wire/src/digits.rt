@@ -5,28 +5,28 @@ ghost use Rattle.std.proofs.Math.Seq.{paste};
 ghost use Rattle.wire.specs.Digits.{digit_of, two, four, hex_of, value_of, two_at, four_at, octets_in, octet, word, FindsOctets};
 
 // What one or two digits give.
-#[derive(Drop)]
+#[derive(Clone, Copy)]
 pub enum Octet {
     Value(u8),
     Bad,
 }
 
 // What four digits give.
-#[derive(Drop)]
+#[derive(Clone, Copy)]
 pub enum Word {
     Value(u16),
     Bad,
 }
 
 // How many bytes digits give.
-#[derive(Drop)]
+#[derive(Clone, Copy)]
 pub enum Count {
     Value(u8),
     Bad,
 }
 
 // Up to 16 bytes from two digits each, with zeros behind them. The array stands beside the count, since no enum holds one.
-#[derive(Drop)]
+#[derive(Clone, Copy)]
 pub struct Octets {
     pub count: Count,
     pub bytes: [u8; 16],

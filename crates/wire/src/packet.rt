@@ -59,7 +59,7 @@ pub const MOST_PACKET: usize = 73;
 pub const LEAST_BUFFER: usize = 64;
 
 // Good, or why not.
-#[derive(Drop)]
+#[derive(Clone, Copy)]
 pub enum Judged {
     Good,
     Refused(Refusal),

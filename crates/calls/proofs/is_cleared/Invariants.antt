@@ -1,0 +1,24 @@
+-- Where the first i bytes agree, the test of all is the test of the rest; each turn takes one byte off both.
+use Prim.Native.Nat.{ℕ, ◌+◌, ◌-◌, ◌≤◌, ◌<◌}
+use mathlib.Core.Bool.{◌&&◌}
+use mathlib.Core.List.{List, [], ◌∷◌}
+use mathlib.Core.Path.{◌≡◌, refl, sym, ◌∙◌}
+use native.Mathlib.Numerals.{add-one}
+use native.Mathlib.Omega.{arith}
+use borrow.Author.Tests.{eq-eqb, ne_eqb}
+use lib.Dec.{eqb}
+use lib.ListN.{length, get_or, take, drop, drop_of_length-le}
+use lib.Seq.{drop-cons, get_or-take, length-take-le}
+use Rattle.calls.specs.Calls.{first_bytes, same}
+use Rattle.calls.proofs.is_cleared.Given as goal
+
+-- what is left of the first p bytes from i on
+abbrev pub rest : ℕ → ℕ → List ℕ → List ℕ
+rest p i s = drop i (take p s)
+
+abbrev pub invariant-loop-i : goal.invariant-loop-i
+invariant-loop-i l =
+    (1 ≤ l.i) × (same (first_bytes l.p l.store) (first_bytes l.p l.unused) ≡ same (rest l.p l.i l.store) (rest l.p l.i l.unused))
+
+abbrev pub decreases-loop-i : goal.decreases-loop-i
+decreases-loop-i l = l.p - l.i
