@@ -4,7 +4,7 @@ use Rattle.board.proofs.CallLaws.{held-proper, wanted_next, waits-plans, decline
 use Rattle.board.proofs.board.Board.accepts.Goals as goal
 
 pub accept-received-requires : goal.accept-received-requires
-accept-received-requires c = (search held-proper, search wanted_next)
+accept-received-requires c = record { proper = search held-proper; asked = search wanted_next }
 
 pub returns-in-Waiting : goal.returns-in-Waiting
 returns-in-Waiting c = search waits-plans

@@ -4,4 +4,4 @@ use Rattle.board.proofs.board.Board.ends.Goals as goal
 
 pub returns : goal.returns
 returns c =
-    ((c.with_erase.ensures, c.one-plan.ensures), c.last_answer.ensures c.args.self.serial c.args.self.model)
+    record { board_value = (c.with_erase.ensures, c.one-plan.ensures); answer_value = c.last_answer.ensures c.args.self.serial c.args.self.model }
