@@ -5,8 +5,7 @@ use Prim.Native.Nat.{ℕ, ◌+◌, ◌-◌, ◌≤◌, ◌<◌}
 use native.Mathlib.Omega.{arith}
 use borrow.Author.Tests.{ltb-true, ltb-false, lt-ltb, le-ltb}
 use lib.Dec.{ltb}
-use Rattle.play.proofs.is_full.Statement.{statement}
-use Rattle.play.proofs.is_full.Tie as tie
+use Rattle.play.proofs.is_full.Goals as goal
 
 under_two : (log store : ℕ) → log < 2 → true ≡ ltb log (store + 2)
 under_two log store h = sym (lt-ltb log (store + 2) (omega arith))
@@ -15,11 +14,8 @@ less_two : (log store : ℕ) → 2 ≤ log → (t : Bool) → ltb (log - 2) stor
 less_two log store h true e = sym (lt-ltb log (store + 2) (omega (arith, ltb-true)))
 less_two log store h false e = sym (le-ltb log (store + 2) (omega (arith, ltb-false)))
 
-returns : tie.Need-returns
-returns c = search under_two
+pub returns-then-log-lt2 : goal.returns-then-log-lt2
+returns-then-log-lt2 c = search under_two
 
-returns-2 : tie.Need-returns-2
-returns-2 c = less_two _ _ c.if1.false _ refl
-
-pub is_full_spec : {M : Type 1} → statement M
-is_full_spec = tie.close (tie.spec returns returns-2)
+pub returns : goal.returns
+returns c = less_two _ _ c.if-log-lt2.false _ refl

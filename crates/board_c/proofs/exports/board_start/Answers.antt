@@ -17,8 +17,7 @@ use Rattle.board.specs.Values.{Starts as StartsBoard}
 use Rattle.board_c.specs.State.{state_bytes, state_in}
 use Rattle.board_c.specs.Exports.{start_in, Starts}
 use borrow.Author.Rules.{rules}
-use Rattle.board_c.proofs.exports.board_start.Statement.{statement}
-use Rattle.board_c.proofs.exports.board_start.Tie as tie
+use Rattle.board_c.proofs.exports.board_start.Goals as goal
 
 refused-starts : (x : calls.Started BoardState) (w : StartAnswer) (r : Refusal) (n : ℕ) (s m : List ℕ) → w ≡ StartAnswer.Refused r
     → start_refusal_of w ≡ start_refusal_in x → n ≡ number_of r → Starts (start_in (length s) x) n s s m m
@@ -52,59 +51,11 @@ put-starts (calls.board y es) w v s after m m' q e told size put shown =
     (record { result = refl; state = shown ∙ is; bytes = put ∙ ap state_bytes told.value; stored = told.store })
 put-starts (calls.start_refused j) w v s after m m' q e told size put shown = absurd (none-ne-some _ (sym (ap start_refusal_of q) ∙ e))
 
-start-answer-requires : tie.Need-start-answer-requires
-start-answer-requires c κs = search rules
+pub returns-in-Refused : goal.returns-in-Refused
+returns-in-Refused c = search refused-starts
 
-enum-known-answer : tie.Need-enum-known-answer
-enum-known-answer c = search rules
+pub returns-then-state-ne-SIZE : goal.returns-then-state-ne-SIZE
+returns-then-state-ne-SIZE c = search another_size
 
-number-requires : tie.Need-number-requires
-number-requires c κs = search rules
-
-same_length : tie.Need-same-length
-same_length c = search rules
-
-returns : tie.Need-returns
-returns c = search refused-starts
-
-enum_told : tie.Need-enum-told
-enum_told c = search rules
-
-same-length-2 : tie.Need-same-length-2
-same-length-2 c = search rules
-
-returns-2 : tie.Need-returns-2
-returns-2 c = search another_size
-
-start-requires : tie.Need-start-requires
-start-requires c κs = search rules
-
-put-state-requires : tie.Need-put-state-requires
-put-state-requires c κs = search rules
-
-same-length-3 : tie.Need-same-length-3
-same-length-3 c = search rules
-
-same-length-4 : tie.Need-same-length-4
-same-length-4 c = search rules
-
-returns-3 : tie.Need-returns-3
-returns-3 c = search put-starts
-
-pub board_start_spec : {M : Type 1} → statement M
-board_start_spec =
-    tie.close
-    (tie.spec
-    start-answer-requires
-    enum-known-answer
-    number-requires
-    same_length
-    returns
-    enum_told
-    same-length-2
-    returns-2
-    start-requires
-    put-state-requires
-    same-length-3
-    same-length-4
-    returns-3)
+pub returns : goal.returns
+returns c = search put-starts

@@ -10,8 +10,7 @@ use Rattle.wire.proofs.CopyLaws.{copy_all}
 use Rattle.layouts.proofs.UnusedLaws.{unused-length}
 use Rattle.board_c.specs.Exports.{unused_result, unused_in}
 use borrow.Author.Rules.{rules}
-use Rattle.board_c.proofs.exports.board_unused.Statement.{statement}
-use Rattle.board_c.proofs.exports.board_unused.Tie as tie
+use Rattle.board_c.proofs.exports.board_unused.Goals as goal
 
 module _ (s : List ℕ) where
   module _ (n : length s ≡ 128 → ⊥) where
@@ -34,31 +33,8 @@ module _ (s : List ℕ) where
         let l : length s ≡ length u = size ∙ sym (ap length q ∙ unused-length) in
         rw (eq-eqb (length s) 128 size) (e ∙ copy_all s u l ∙ q)
 
-returns : tie.Need-returns
-returns c = (search other-refused, search other-kept)
+pub returns-then-store-ne128 : goal.returns-then-store-ne128
+returns-then-store-ne128 c = (search other-refused, search other-kept)
 
-unused-requires : tie.Need-unused-requires
-unused-requires c κs = search rules
-
-slice-aggregate-put-bytes : tie.Need-slice-aggregate-put-bytes
-slice-aggregate-put-bytes c = search rules
-
-put-bytes-requires : tie.Need-put-bytes-requires
-put-bytes-requires c κs = search rules
-
-same_length : tie.Need-same-length
-same_length c = search rules
-
-returns-2 : tie.Need-returns-2
-returns-2 c = (search filled, search filled_whole)
-
-pub board_unused_spec : {M : Type 1} → statement M
-board_unused_spec =
-    tie.close
-    (tie.spec
-    returns
-    unused-requires
-    slice-aggregate-put-bytes
-    put-bytes-requires
-    same_length
-    returns-2)
+pub returns : goal.returns
+returns c = (search filled, search filled_whole)
