@@ -1,7 +1,5 @@
 -- Each way through a call: under the tests that the code makes on the way, what the chain of checks in the definition comes to, and what is left in
 -- the board's value.
-use types.Run.{OneOf, miss}
-use denote.Enum.Declared.{tag_of}
 use mathlib.Core.Path.{◌≡◌, refl, ap, sym, ◌∙◌, subst}
 use mathlib.Core.Bool.{Bool, true, false, cond, ◌&&◌, and_assoc, false≢true}
 use mathlib.Core.List.{List, [], ◌∷◌, ◌++◌}
@@ -37,7 +35,6 @@ use Rattle.calls.specs.Calls.{mark, erase_mark, first_bytes, same, entry_check, 
 use Rattle.calls.specs.View.{entry_check_as}
 use Rattle.calls.specs.Inner.{refusal_at}
 use Rattle.calls.specs.declared.EntryCheck.{EntryCheck}
-use Rattle.calls.specs.contracts.EntryCheck.{the_type}
 use Rattle.calls.proofs.Steps.{Passed, idle-passed, pending-passed}
 use Rattle.actions.specs.Act.{Effect, replies, begins, effect}
 use Rattle.actions.specs.View.{identity_bytes}
@@ -47,10 +44,9 @@ use Rattle.packets.specs.Packets.{holding, on_packet, on_packet_to, to_own, to_a
 use Rattle.packets.specs.Inner.{answer_after, erase_after, outcome_of}
 use Rattle.packets.specs.declared.Acted.{Acted}
 use Rattle.packets.specs.declared.Planned as packets
-use Rattle.packets.specs.contracts.Acted as acts
 use Rattle.packets.proofs.IdentityLaws.{named_told}
 use Rattle.board.specs.BoardKind.{Call, byte, gap, lends, start_other, board_kind}
-use Rattle.board.specs.View.{erase_of, state_of, answer_of, result, Gives, planned_outcome, Plans, start_refusal_in, start_refusal_of, given_identity}
+use Rattle.board.specs.View.{erase_of, state_of, answer_of, Gives, planned_outcome, Plans, start_refusal_in, start_refusal_of, given_identity}
 use Rattle.board.specs.Values.{fresh_board, no_board, Starts, with_receiver, with_erase, byte_leaves, call_leaves, step_leaves}
 use Rattle.board.specs.Inner.{identity_fits, start_state, start_state_as, erase_fits, sound_fits, Sized, Accepting, Acting, Erasing, Planning, packet_leaves_by, packet_leaves}
 use Rattle.board.specs.declared.board.Erase.{Erase}

@@ -8,7 +8,7 @@ use Prim.Native.Nat.{ℕ, ◌+◌, ◌≤◌, ◌<◌}
 use native.Mathlib.Omega.{arith}
 use lib.Dec.{ltb, eqb}
 use lib.ListN.{length, get_or, length-append}
-use borrow.Author.Tests.{eqb-true, eqb-false, ltb-true, ltb-false, eq-eqb, ne_eqb, le-ltb, lt-ltb, le-leb, lt-leb}
+use borrow.Author.Tests.{eqb-true, eqb-false, ltb-true, ltb-false, ne_eqb, le-ltb, lt-ltb, le-leb, lt-leb}
 use Rattle.bitfield.specs.Field.{get_field}
 use Rattle.plan.specs.Stores.{Entry}
 use Rattle.wire.specs.Digits.{two_at}
@@ -21,7 +21,7 @@ use Rattle.store.specs.Layout.{fields_in_range}
 use Rattle.layouts.specs.Layouts.{in_range, fits_layout, conversion, unused_store}
 use Rattle.schedule.specs.Programs.{first_in_range, programs_in_range, is_time}
 use Rattle.schedule.proofs.TimeLaws.{time_as}
-use Rattle.calls.specs.Board.{Identity, waiting, refused, Erase, idle, pending, is_pending, Started, board, start_refused}
+use Rattle.calls.specs.Board.{Identity, waiting, Erase, idle, pending, is_pending, Started, board, start_refused}
 use Rattle.calls.specs.Calls.{mark, first_bytes, erasing, is_short, is_sound_as, is_sound, entry_check, entry_check_of, refuse, call_on, on_call, step_on, on_step, on_start, erase_step, clear_step, end_step}
 use Rattle.calls.proofs.Steps.{step-clears_or_ends}
 use Rattle.board.proofs.PacketFed.{call-done}

@@ -12,7 +12,7 @@ use Rattle.wire.specs.Judge as judge
 use Rattle.wire.proofs.Tests.{cond-by}
 use Rattle.messages.specs.Read.{request_in}
 use Rattle.receiver.specs.Receive as receive
-use Rattle.calls.specs.Board.{Identity, waiting, refused, Erase, idle, pending, is_pending}
+use Rattle.calls.specs.Board.{Identity, refused, Erase, idle, pending, is_pending}
 use Rattle.calls.specs.Calls.{is_short, is_sound, entry_check, entry_check_of, refuse, call_on, on_call, clear_step, end_step, erase_step, step_on, on_step}
 use Rattle.calls.proofs.Steps.{step-clears_or_ends}
 use Rattle.actions.specs.Act.{Effect, replies, begins, effect}

@@ -2,7 +2,6 @@
 -- Bytes of a serial number, a model or a tag, and a schedule's numbers, stand in an array beside the enum, as many as the enum counts.
 use Rattle.std.specs.Prelude.{List, ℕ, take}
 use Rattle.messages.specs.Message as message
-use Rattle.messages.specs.declared.message.Date.{Date}
 use Rattle.messages.specs.declared.message.Status.{Status}
 use Rattle.messages.specs.declared.message.PowerMode.{PowerMode}
 use Rattle.messages.specs.declared.message.DateAnswer.{DateAnswer}

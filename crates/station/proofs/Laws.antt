@@ -1,10 +1,8 @@
 -- What the encoder says: the text of a request fits a packet of 64 bytes, since at most 16 bytes stand beside it; which requests are in range;
 -- and a law for each way through the encoder.
 use borrow.Author.Tests.{lt-ltb, le-ltb, le-leb, lt-leb, not-true, not-false}
-use types.Run.{OneOf, miss}
-use denote.Enum.Declared.{tag_of}
 use mathlib.Core.Bool.{Bool, true, false, not, ◌||◌}
-use mathlib.Core.List.{List, [], ◌∷◌}
+use mathlib.Core.List.{List, ◌∷◌}
 use mathlib.Core.Option.{Option, none, some}
 use mathlib.Core.Path.{◌≡◌, refl, sym}
 use Prim.Native.Nat.{ℕ, ◌≤◌, ◌<◌}
@@ -28,7 +26,6 @@ use Rattle.messages.specs.declared.message.Item.{Item}
 use Rattle.messages.specs.declared.message.Request.{Request}
 use Rattle.messages.specs.declared.message.ScheduleRequest.{ScheduleRequest}
 use Rattle.messages.specs.declared.write.Written.{Written}
-use Rattle.messages.specs.contracts.message.Request.{the_type}
 use Rattle.calendar.specs.Calendar.{is_accepted}
 use Rattle.station.specs.Encode.{Encoding, refused, address_in, is_schedule_in_range, is_in_range, encoding_to, encoding_of, encoding, Encodes}
 use Rattle.station.specs.Inner.{address_as}

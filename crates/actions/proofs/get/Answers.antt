@@ -1,5 +1,4 @@
 -- The erase has its own reply, and what is listed the other function's.
-use borrow.Author.Rules.{rules}
 use mathlib.Core.Bool.{Bool, true, false}
 use mathlib.Core.List.{List, []}
 use mathlib.Core.Path.{◌≡◌}

@@ -1,5 +1,4 @@
 -- The modes in the order of the definition.
-use borrow.Author.Rules.{rules}
 use mathlib.Core.List.{List, []}
 use mathlib.Core.Path.{◌≡◌}
 use Prim.Native.Nat.{ℕ}

@@ -1,5 +1,4 @@
 -- A program that there is is enabled with 1 and disabled with 0; all else is refused.
-use borrow.Author.Rules.{rules}
 use borrow.Author.Tests.{le-leb, lt-leb}
 use mathlib.Core.List.{List, []}
 use mathlib.Core.Path.{◌≡◌}

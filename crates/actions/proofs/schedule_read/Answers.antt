@@ -1,5 +1,4 @@
 -- A program that there is shows its numbers, another gets NULL.
-use borrow.Author.Rules.{rules}
 use borrow.Author.Tests.{le-leb, lt-leb}
 use mathlib.Core.List.{List, []}
 use mathlib.Core.Path.{◌≡◌}

@@ -1,5 +1,4 @@
 -- 1 begins the erase, another value is refused.
-use borrow.Author.Rules.{rules}
 use mathlib.Core.Bool.{cond}
 use mathlib.Core.List.{[]}
 use mathlib.Core.Path.{◌≡◌}

@@ -1,5 +1,4 @@
 -- With no bytes counted, the reply is the same whatever bytes are beside it.
-use borrow.Author.Rules.{rules}
 use mathlib.Core.Path.{refl}
 use Rattle.actions.proofs.Laws.{decides_reply}
 use Rattle.actions.proofs.unchanged.Goals as goal

@@ -1,5 +1,4 @@
 -- `bitfield::part` meets its contract: the shift is a division, and the divisor is the power that `two_to` gives.
-use borrow.Author.Rules.{rules}
 use Rattle.bitfield.proofs.Bits.{positive}
 use Rattle.bitfield.proofs.part.Goals as goal
 

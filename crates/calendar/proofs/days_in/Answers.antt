@@ -1,5 +1,4 @@
 -- Each test on the way is one of those that the list of the months comes to.
-use borrow.Author.Rules.{rules}
 use borrow.Author.Tests.{eq-eqb, ne_eqb}
 use mathlib.Core.Bool.{Bool, true, false, ◌&&◌, ◌||◌}
 use mathlib.Core.Logic.{◌≢◌}

@@ -1,5 +1,4 @@
 -- The days before a day are few enough for 16 bits, and the weekday is a remainder by 7.
-use borrow.Author.Rules.{rules}
 use native.Mathlib.Omega.{arith}
 use Rattle.calendar.specs.Calendar.{weekday_of}
 use Rattle.calendar.proofs.DayLaws.{day-facts, days_few}

@@ -1,5 +1,4 @@
 -- The bytes that are not zero are stored in zeros, and the programs' bytes over them.
-use borrow.Author.Rules.{rules}
 use mathlib.Core.List.{List, ◌++◌}
 use mathlib.Core.Path.{◌≡◌, refl, ◌∙◌}
 use Prim.Native.Nat.{ℕ}

@@ -1,5 +1,4 @@
 -- Each test of the code is one of the definition's.
-use borrow.Author.Rules.{rules}
 use Rattle.wire.proofs.Tests.{tests}
 use Rattle.packets.specs.Packets.{addressee}
 use Rattle.packets.proofs.addressee_of.Goals as goal

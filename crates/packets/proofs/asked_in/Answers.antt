@@ -1,5 +1,4 @@
 -- The bytes from index 8 to ETX are as many as the size says.
-use borrow.Author.Rules.{rules}
 use mathlib.Core.List.{List}
 use mathlib.Core.Path.{◌≡◌}
 use Prim.Native.Nat.{ℕ, ◌-◌}

@@ -1,5 +1,4 @@
 -- As for this board alone, with nothing sent.
-use borrow.Author.Rules.{rules}
 use Rattle.packets.proofs.DecisionLaws.{all-begun, all-silent}
 use Rattle.packets.proofs.for_all.Goals as goal
 

@@ -1,14 +1,10 @@
 -- No entry changes nothing; else after i turns the first i entries are applied.
 use mathlib.Core.List.{List}
-use mathlib.Core.Path.{◌≡◌, refl}
-use Prim.Native.Nat.{ℕ, ◌+◌, ◌-◌, ◌≤◌, ◌<◌}
-use native.Mathlib.Omega.{arith}
-use borrow.Author.Rules.{rules}
-use lib.ListN.{length, get_or, set, length-set}
+use mathlib.Core.Path.{◌≡◌}
+use Prim.Native.Nat.{ℕ, ◌-◌, ◌≤◌}
+use lib.ListN.{length}
 use Rattle.plan.specs.Stores.{applied}
 use Rattle.plan.specs.Plans.{entries_of}
-use Rattle.plan.specs.Inner.{Committable}
-use Rattle.plan.proofs.Laws.{entries_length, within-place, commit-turn}
 use Rattle.plan.proofs.commit.Given as goal
 
 -- the first i entries are stored

@@ -1,5 +1,5 @@
 -- The first event is played, and then the rest: where that ends the list, where it goes on, and what the rest leaves.
-use Rattle.std.proofs.Common.{arith, rules}
+use Rattle.std.proofs.Common.{arith}
 use Rattle.play.proofs.RunLaws.{ends-first, leaves-two, leaves-part, leaves-room, goes_on_lem, plays-rest, rest-fewer, rest-kept}
 use Rattle.play.proofs.+play_play_rest.Goals as goal
 

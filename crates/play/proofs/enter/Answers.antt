@@ -1,5 +1,4 @@
 -- The matched case of what is seen tells the entry.
-use borrow.Author.Rules.{rules}
 use native.Mathlib.Omega.{arith}
 use lib.ListN.{length-set}
 use Rattle.play.proofs.Laws.{answer-enters, start-enters, refusal-enters}

@@ -1,5 +1,4 @@
 -- The matched case of the answer says which number it holds.
-use borrow.Author.Rules.{rules}
 use Rattle.play.proofs.Laws.{refusal-number, no_number}
 use Rattle.play.proofs.number_in.Goals as goal
 

@@ -1,15 +1,9 @@
 -- After i turns the log begins with the two numbers and the store's first i bytes, and each turn writes one more.
-use Prim.Native.Nat.{ℕ, ◌+◌, ◌-◌, ◌≤◌, ◌<◌}
-use mathlib.Core.List.{List, [], ◌∷◌}
-use mathlib.Core.Path.{◌≡◌, refl, sym, ◌∙◌}
-use mir.Facts.{Fits-8_64}
-use native.Mathlib.Omega.{arith}
-use native.Mathlib.Numerals.{add-one}
-use lib.ListN.{length, get_or, set, take, length-set}
-use lib.Seq.{take-suc, take_all, length-take-le}
+use Prim.Native.Nat.{ℕ, ◌+◌, ◌-◌, ◌≤◌}
+use mathlib.Core.List.{List, ◌∷◌}
+use mathlib.Core.Path.{◌≡◌}
+use lib.ListN.{length, take}
 use Rattle.wire.specs.Packet.{over}
-use Rattle.wire.proofs.PacketLaws.{over-set}
-use Rattle.play.proofs.Laws.{two-over, over-two}
 use Rattle.play.proofs.put_entry.Given as goal
 
 -- the two numbers and the store's first i bytes

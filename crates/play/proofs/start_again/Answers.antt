@@ -1,5 +1,4 @@
 -- A start that gives a board is seen as started, and a refused one by its number.
-use borrow.Author.Rules.{rules}
 use Rattle.play.proofs.Laws.{started-again, refused-again}
 use Rattle.play.proofs.start_again.Goals as goal
 

@@ -1,5 +1,4 @@
 -- The tests tell which event a number is, and the call of each shows what its contract says.
-use borrow.Author.Rules.{rules}
 use Rattle.play.proofs.Laws.{byte-turns, gap-turns, step-turns, cut-turns}
 use Rattle.play.proofs.turn_of.Goals as goal
 

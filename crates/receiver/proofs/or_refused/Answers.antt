@@ -1,6 +1,5 @@
 -- A verdict is good or refused, and both are told by the match.
 use mathlib.Core.Path.{◌≡◌}
-use borrow.Author.Rules.{rules}
 use Rattle.wire.specs.declared.packet.Judged.{Judged}
 use Rattle.wire.specs.declared.refusal.Refusal.{Refusal}
 use Rattle.receiver.specs.Inner.{or_refused}

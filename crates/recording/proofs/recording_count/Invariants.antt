@@ -1,12 +1,9 @@
 -- The counts so far and those of what is left are the counts of all, and what is held stays a proper beginning that asks for so many bytes.
-use mathlib.Core.List.{List, []}
-use Prim.Native.Nat.{ℕ, ◌+◌, ◌-◌, ◌<◌}
-use native.Mathlib.Omega.{arith}
-use lib.ListN.{length, take, get_or}
-use Rattle.receiver.specs.Receive.{accept}
-use Rattle.receiver.proofs.Laws.{byte-accepted}
-use Rattle.recording.specs.Inner.{Asking, Counts}
-use Rattle.recording.proofs.Laws.{nothing-asks, Played, nothing-played, played-on, wholes-counted, refusals-counted}
+use mathlib.Core.List.{List}
+use Prim.Native.Nat.{ℕ, ◌-◌}
+use lib.ListN.{length, take}
+use Rattle.recording.specs.Inner.{Asking}
+use Rattle.recording.proofs.Laws.{Played}
 use Rattle.recording.proofs.recording_count.Given as goal
 
 pub record Held (s held : List ℕ) (asked packets refused i : ℕ) : Type 0 where

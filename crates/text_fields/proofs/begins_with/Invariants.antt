@@ -1,13 +1,9 @@
 -- After i turns the first i bytes are the same, so that the rest decides; a law for each way out of a turn.
-use mathlib.Core.Bool.{true, false}
 use mathlib.Core.List.{List}
-use mathlib.Core.Path.{◌≡◌, refl, sym, ◌∙◌}
-use Prim.Native.Nat.{ℕ, ◌+◌, ◌-◌, ◌≤◌, ◌<◌}
-use native.Mathlib.Omega.{arith}
-use borrow.Author.Tests.{eq-eqb, ne_eqb}
-use lib.ListN.{length, get_or, drop, drop_of_length-le}
+use mathlib.Core.Path.{◌≡◌}
+use Prim.Native.Nat.{ℕ, ◌-◌, ◌≤◌}
+use lib.ListN.{length, drop}
 use Rattle.messages.specs.Read.{begins_with}
-use Rattle.text_fields.proofs.TextLaws.{begins-short, begins-step}
 use Rattle.text_fields.proofs.begins_with.Given as goal
 
 -- the first i bytes of a text are those of a name

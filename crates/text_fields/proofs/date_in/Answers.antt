@@ -1,5 +1,4 @@
 -- The length, the year, then the fields behind it.
-use borrow.Author.Rules.{rules}
 use Rattle.wire.proofs.Ways.{ways}
 use Rattle.messages.specs.Read.{date_in}
 use Rattle.text_fields.proofs.date_in.Goals as goal

@@ -1,5 +1,4 @@
 -- The six fields in the order of the definition.
-use borrow.Author.Rules.{rules}
 use Rattle.wire.proofs.Ways.{ways}
 use Rattle.text_fields.proofs.date_of_year.Goals as goal
 

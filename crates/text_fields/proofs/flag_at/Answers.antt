@@ -1,5 +1,4 @@
 -- What `two_at_lem` tells is what the definition takes if it is at most 1.
-use borrow.Author.Rules.{rules}
 use Rattle.wire.proofs.Ways.{ways}
 use Rattle.messages.specs.Read.{flag_at}
 use Rattle.text_fields.proofs.flag_at.Goals as goal

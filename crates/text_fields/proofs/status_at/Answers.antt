@@ -4,7 +4,6 @@ use mathlib.Core.Option.{none, some}
 use mathlib.Core.Path.{◌≡◌, sym, ◌∙◌}
 use Prim.Native.Nat.{ℕ}
 use native.Mathlib.Omega.{arith}
-use borrow.Author.Rules.{rules}
 use Rattle.wire.specs.Digits.{octet}
 use Rattle.wire.specs.declared.digits.Octet.{Octet}
 use Rattle.messages.specs.Read.{flag_at}

@@ -1,5 +1,4 @@
 -- Each way that a packet went has its answer.
-use borrow.Author.Rules.{rules}
 use mathlib.Core.Path.{◌≡◌, sym}
 use Prim.Native.Nat.{ℕ}
 use Rattle.calls.specs.Board as calls

@@ -1,5 +1,4 @@
 -- Nothing is held, and each item is made as it was given.
-use borrow.Author.Rules.{rules}
 use Rattle.board.proofs.board.fresh.Goals as goal
 
 pub returns : goal.returns

@@ -1,7 +1,5 @@
 -- Ended, or the reply as it is sent.
-use borrow.Author.Rules.{rules}
 use mathlib.Core.Path.{refl, ap}
-use borrow.Author.Tests.{not-true, not-false}
 use Rattle.calls.specs.Board.{reply}
 use Rattle.board.specs.BoardKind.{erase_reply}
 use Rattle.board.proofs.board.last_answer.Goals as goal

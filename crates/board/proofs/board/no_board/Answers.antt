@@ -1,5 +1,4 @@
 -- No bytes, and zeros behind them.
-use borrow.Author.Rules.{rules}
 use Rattle.wire.specs.Digits.{padded}
 use Rattle.board.proofs.board.no_board.Goals as goal
 

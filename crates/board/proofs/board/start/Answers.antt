@@ -1,5 +1,4 @@
 -- What a start on the store comes to decides whether a board is given.
-use borrow.Author.Rules.{rules}
 use Rattle.board.proofs.CallLaws.{serial_few, model_few, sized, convertible, committable, refused-start, ready-start}
 use Rattle.board.proofs.board.start.Goals as goal
 

@@ -1,5 +1,4 @@
 -- What a start on the store comes to is the answer.
-use borrow.Author.Rules.{rules}
 use Rattle.board.proofs.CallLaws.{refused-answer, ready-answer}
 use Rattle.board.proofs.board.start_answer.Goals as goal
 

@@ -1,5 +1,4 @@
 -- Each test of the code is one of the definition's.
-use borrow.Author.Rules.{rules}
 use mathlib.Core.Bool.{Bool, true, false, not}
 use mathlib.Core.List.{List}
 use mathlib.Core.Path.{◌≡◌, sym, ◌∙◌}

@@ -1,5 +1,4 @@
 -- The mark of an unused store is 1; held bytes that ask for none are no proper beginning; the rest is judged by the callee.
-use borrow.Author.Rules.{rules}
 use mathlib.Core.Bool.{false, and-true, and-false}
 use mathlib.Core.List.{List}
 use mathlib.Core.Path.{◌≡◌, sym, ◌∙◌}

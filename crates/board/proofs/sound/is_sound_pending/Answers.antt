@@ -1,5 +1,4 @@
 -- Each test of the code is one of the definition's; the cleared bytes are judged by the callee.
-use borrow.Author.Rules.{rules}
 use Rattle.wire.proofs.Tests.{tests}
 use Rattle.calls.specs.Calls.{mark}
 use Rattle.board.proofs.sound.is_sound_pending.Goals as goal

@@ -16,7 +16,6 @@ use Rattle.board.specs.declared.board.Board.{Board}
 use Rattle.board.specs.Values.{Starts as StartsBoard}
 use Rattle.board_c.specs.State.{state_bytes, state_in}
 use Rattle.board_c.specs.Exports.{start_in, Starts}
-use borrow.Author.Rules.{rules}
 use Rattle.board_c.proofs.exports.board_start.Goals as goal
 
 refused-starts : (x : calls.Started BoardState) (w : StartAnswer) (r : Refusal) (n : ℕ) (s m : List ℕ) → w ≡ StartAnswer.Refused r

@@ -9,7 +9,6 @@ use Rattle.layouts.specs.Layouts.{unused_store}
 use Rattle.wire.proofs.CopyLaws.{copy_all}
 use Rattle.layouts.proofs.UnusedLaws.{unused-length}
 use Rattle.board_c.specs.Exports.{unused_result, unused_in}
-use borrow.Author.Rules.{rules}
 use Rattle.board_c.proofs.exports.board_unused.Goals as goal
 
 module _ (s : List ℕ) where

@@ -1,6 +1,5 @@
 -- Where all is kept, and in a state of another size, nothing is written.
 use Rattle.board_c.proofs.AnswerLaws.{all-kept, not_saved, saved}
-use borrow.Author.Rules.{rules}
 use Rattle.board_c.proofs.exports.save.Goals as goal
 
 pub returns-then-keeps_all : goal.returns-then-keeps_all

@@ -1,6 +1,5 @@
 -- A refusal and a reply each write their place, and another answer writes none.
 use Rattle.board_c.proofs.AnswerLaws.{refusal-told, reply-told, neither_told}
-use borrow.Author.Rules.{rules}
 use Rattle.board_c.proofs.exports.tell.Goals as goal
 
 pub returns-in-Refused : goal.returns-in-Refused

@@ -2,7 +2,6 @@
 use Rattle.wire.proofs.Tests.{tests}
 use Rattle.board_c.specs.State.{board_in}
 use Rattle.board_c.proofs.StateLaws.{board-read}
-use borrow.Author.Rules.{rules}
 use Rattle.board_c.proofs.state.board_in.Goals as goal
 
 pub returns-then-state-ne-SIZE : goal.returns-then-state-ne-SIZE

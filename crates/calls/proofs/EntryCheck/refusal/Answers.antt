@@ -1,5 +1,4 @@
 -- Each entry has its refusal.
-use borrow.Author.Rules.{rules}
 use mathlib.Core.Path.{◌≡◌, sym}
 use Prim.Native.Nat.{ℕ}
 use Rattle.calls.specs.View.{entry_check_as}

@@ -2,7 +2,6 @@
 use mathlib.Core.List.{List}
 use mathlib.Core.Path.{◌≡◌}
 use Prim.Native.Nat.{ℕ}
-use borrow.Author.Rules.{rules}
 use Rattle.wire.specs.Packet.{type_b}
 use Rattle.messages.specs.Text.{reply_text}
 use Rattle.messages.specs.View.{date_answer_of}

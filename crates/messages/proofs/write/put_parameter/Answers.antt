@@ -2,8 +2,6 @@
 use mathlib.Core.List.{List, [], ◌∷◌}
 use mathlib.Core.Path.{◌≡◌, refl}
 use Prim.Native.Nat.{ℕ}
-use borrow.Author.Rules.{rules}
-use lib.ListN.{length}
 use lib.Seq.{paste}
 use Rattle.wire.specs.Digits.{two, four}
 use Rattle.messages.specs.Text.{parameter_text}

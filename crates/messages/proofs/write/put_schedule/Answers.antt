@@ -2,7 +2,6 @@
 use mathlib.Core.List.{List}
 use mathlib.Core.Path.{◌≡◌}
 use Prim.Native.Nat.{ℕ, ◌≤◌}
-use borrow.Author.Rules.{rules}
 use lib.ListN.{length, take}
 use Rattle.wire.specs.Packet.{type_a}
 use Rattle.messages.specs.Text.{schedule_text}

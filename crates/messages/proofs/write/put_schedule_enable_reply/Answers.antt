@@ -2,7 +2,6 @@
 use mathlib.Core.List.{List, [], ◌∷◌, ◌++◌}
 use mathlib.Core.Path.{◌≡◌, refl}
 use Prim.Native.Nat.{ℕ}
-use borrow.Author.Rules.{rules}
 use lib.Seq.{paste}
 use Rattle.wire.specs.Digits.{two}
 use Rattle.wire.specs.Packet.{type_b}

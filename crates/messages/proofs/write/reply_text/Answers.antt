@@ -2,14 +2,12 @@
 use mathlib.Core.List.{List, ◌++◌}
 use mathlib.Core.Path.{◌≡◌, refl}
 use Prim.Native.Nat.{ℕ, ◌≤◌}
-use borrow.Author.Rules.{rules}
 use lib.ListN.{length, take}
 use Rattle.wire.specs.Digits.{hex_of}
 use Rattle.wire.specs.Packet.{type_b}
 use Rattle.messages.specs.Text.{reply_type, reply_text, item_reply_name}
 use Rattle.messages.specs.View.{reply_of, date_answer_of, reply_count, schedule_answer_count}
 use Rattle.messages.specs.Inner.{Beside, Writes}
-use Rattle.messages.specs.declared.message.Date.{Date}
 use Rattle.messages.specs.declared.message.DateAnswer.{DateAnswer}
 use Rattle.messages.specs.declared.message.Item.{Item}
 use Rattle.messages.specs.declared.message.ScheduleAnswer.{ScheduleAnswer}

@@ -1,5 +1,4 @@
 -- The names in the order of the definition.
-use borrow.Author.Rules.{rules}
 use Rattle.wire.proofs.Ways.{told}
 use Rattle.messages.specs.Read.{command_in}
 use Rattle.parser.proofs.parse.parse_command.Goals as goal

@@ -1,5 +1,4 @@
 -- A date in the text is the request to write it.
-use borrow.Author.Rules.{rules}
 use Rattle.text_fields.proofs.TextLaws.{date_is, date_bad}
 use Rattle.parser.proofs.parse.parse_date_write.Goals as goal
 

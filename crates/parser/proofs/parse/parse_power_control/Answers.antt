@@ -1,5 +1,4 @@
 -- What the length and the mode tell, in the order of the definition.
-use borrow.Author.Rules.{rules}
 use Rattle.wire.proofs.Ways.{ways}
 use Rattle.messages.specs.Read.{power_control_in}
 use Rattle.parser.proofs.parse.parse_power_control.Goals as goal

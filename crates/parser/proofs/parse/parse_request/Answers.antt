@@ -1,6 +1,5 @@
 -- The types in the order of the definition, then the names that have bytes behind them.
 use mathlib.Core.Option.{map}
-use borrow.Author.Rules.{rules}
 use Rattle.wire.specs.Digits.{octets_in}
 use Rattle.wire.proofs.Ways.{ways}
 use Rattle.messages.specs.Message.Request.{tag_write}

@@ -1,5 +1,4 @@
 -- What the length and the program tell, in the order of the definition.
-use borrow.Author.Rules.{rules}
 use Rattle.wire.proofs.Ways.{ways}
 use Rattle.messages.specs.Read.{schedule_read_in}
 use Rattle.parser.proofs.parse.parse_schedule_read.Goals as goal

@@ -1,5 +1,4 @@
 -- What `numbers_in` finds is the schedule's numbers.
-use borrow.Author.Rules.{rules}
 use Rattle.parser.proofs.ParseLaws.{other, schedule-numbers, no_bytes}
 use Rattle.parser.proofs.parse.parse_schedule_write.Goals as goal
 

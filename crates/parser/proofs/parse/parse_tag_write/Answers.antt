@@ -1,5 +1,4 @@
 -- What `octets_in` finds is the tag.
-use borrow.Author.Rules.{rules}
 use Rattle.parser.proofs.ParseLaws.{other, tag, no_bytes}
 use Rattle.parser.proofs.parse.parse_tag_write.Goals as goal
 

@@ -1,6 +1,5 @@
 -- The names in the order of the definition; a part behind a name is what is left without it.
 use mathlib.Core.Option.{map}
-use borrow.Author.Rules.{rules}
 use Rattle.wire.proofs.Ways.{told}
 use Rattle.messages.specs.Message.Request.{date_write}
 use Rattle.messages.specs.Read.{power_control_in, schedule_read_in, schedule_enable_in, date_in}

@@ -2,7 +2,6 @@
 use mathlib.Core.List.{[], ◌∷◌}
 use mathlib.Core.Path.{◌≡◌, ◌∙◌}
 use Prim.Native.Nat.{ℕ}
-use borrow.Author.Rules.{rules}
 use Rattle.plan.specs.Stores.{entry}
 use Rattle.plan.specs.Plans.{stores_of}
 use Rattle.plan.specs.Inner.{Extended}

@@ -1,11 +1,11 @@
 -- After i turns i entries are added, and those of the bytes left are still to come.
 use mathlib.Core.List.{List, ◌++◌}
 use mathlib.Core.Path.{◌≡◌, sym, ◌∙◌}
-use Prim.Native.Nat.{ℕ, ◌+◌, ◌-◌, ◌≤◌, ◌<◌}
+use Prim.Native.Nat.{ℕ, ◌+◌, ◌≤◌, ◌<◌}
 use native.Mathlib.Nat.{add-zero}
 use native.Mathlib.Omega.{arith}
 use borrow.Author.Rules.{rules}
-use lib.ListN.{length, get_or, set, drop, length-set}
+use lib.ListN.{length, get_or, set, length-set}
 use Rattle.plan.specs.Stores.{range_of}
 use Rattle.plan.specs.Plans.{entries_of}
 use Rattle.plan.proofs.Laws.{range-turn, range-end}

@@ -1,14 +1,10 @@
 -- After i turns i entries are added, and those of the bytes left are still to come.
 use mathlib.Core.List.{List, ◌++◌}
-use mathlib.Core.Path.{◌≡◌, sym, ◌∙◌}
-use Prim.Native.Nat.{ℕ, ◌+◌, ◌-◌, ◌≤◌, ◌<◌}
-use native.Mathlib.Nat.{add-zero}
-use native.Mathlib.Omega.{arith}
-use borrow.Author.Rules.{rules}
-use lib.ListN.{length, get_or, set, drop, length-set}
+use mathlib.Core.Path.{◌≡◌}
+use Prim.Native.Nat.{ℕ, ◌+◌, ◌-◌, ◌≤◌}
+use lib.ListN.{length, drop}
 use Rattle.plan.specs.Stores.{range_of}
 use Rattle.plan.specs.Plans.{entries_of}
-use Rattle.plan.proofs.Laws.{range-turn, range-end}
 use Rattle.plan.proofs.Plan.with_range.Given as goal
 
 -- the first i bytes have their entries

@@ -1,5 +1,4 @@
 -- What `date_in` tells is what the definition takes.
-use borrow.Author.Rules.{rules}
 use Rattle.replies.proofs.ReplyLaws.{date_is, date_bad}
 use Rattle.replies.proofs.read.read_date_read_reply.Goals as goal
 

@@ -1,5 +1,4 @@
 -- The status first, then the date in the rest, as in the definition.
-use borrow.Author.Rules.{rules}
 use Rattle.messages.specs.Read.{date_write_reply_in}
 use Rattle.replies.proofs.ReplyLaws.{ways, date_behind, no_date_behind}
 use Rattle.replies.proofs.read.read_date_write_reply.Goals as goal

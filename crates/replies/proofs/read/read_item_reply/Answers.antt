@@ -1,5 +1,4 @@
 -- What `octets_in` tells is what the definition takes.
-use borrow.Author.Rules.{rules}
 use Rattle.replies.proofs.ReplyLaws.{octets_value, octets_bad, octets_read, refusal}
 use Rattle.replies.proofs.read.read_item_reply.Goals as goal
 

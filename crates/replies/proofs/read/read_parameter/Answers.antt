@@ -1,5 +1,4 @@
 -- The length, then each field in turn, in the code as in the definition.
-use borrow.Author.Rules.{rules}
 use Rattle.messages.specs.Read.{parameter_in}
 use Rattle.replies.proofs.ReplyLaws.{ways}
 use Rattle.replies.proofs.read.read_parameter.Goals as goal

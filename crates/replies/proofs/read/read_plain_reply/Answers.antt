@@ -1,6 +1,5 @@
 -- The names one after the other, as in the definition; a text that begins with a name is long enough to have a rest.
 use mathlib.Core.Option.{map}
-use borrow.Author.Rules.{rules}
 use Rattle.messages.specs.Message.Reply.{date_read_reply}
 use Rattle.messages.specs.Read.{date_in, date_write_reply_in, schedule_enable_reply_in, power_read_reply_in, plain_reply_in}
 use Rattle.text_fields.proofs.TextLaws.{room-behind}

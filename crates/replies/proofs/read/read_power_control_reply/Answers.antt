@@ -1,5 +1,4 @@
 -- Status, name and mode one after the other, as in the definition.
-use borrow.Author.Rules.{rules}
 use Rattle.messages.specs.Read.{power_control_reply_in}
 use Rattle.replies.proofs.ReplyLaws.{ways}
 use Rattle.replies.proofs.read.read_power_control_reply.Goals as goal

@@ -1,5 +1,4 @@
 -- The types one after the other, as in the definition.
-use borrow.Author.Rules.{rules}
 use Rattle.messages.specs.Read.{reply_in}
 use Rattle.replies.proofs.ReplyLaws.{ways, read_as, without_bytes, refusal}
 use Rattle.replies.proofs.read.read_reply.Goals as goal

@@ -1,5 +1,4 @@
 -- What `numbers_in` tells is what the definition takes.
-use borrow.Author.Rules.{rules}
 use Rattle.replies.proofs.ReplyLaws.{octets_bad, numbers-value, numbers-read, refusal}
 use Rattle.replies.proofs.read.read_schedule_read_reply.Goals as goal
 

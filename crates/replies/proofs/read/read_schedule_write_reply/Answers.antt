@@ -1,5 +1,4 @@
 -- The status first, then the numbers of the rest, as in the definition.
-use borrow.Author.Rules.{rules}
 use Rattle.messages.specs.Read.{numbers_in, schedule_write_reply_in}
 use Rattle.replies.proofs.ReplyLaws.{ways, octets_bad, numbers-value, finds_behind, numbers-read, refusal}
 use Rattle.replies.proofs.read.read_schedule_write_reply.Goals as goal

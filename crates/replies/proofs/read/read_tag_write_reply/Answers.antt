@@ -1,5 +1,4 @@
 -- The status first, then the bytes of the rest, as in the definition.
-use borrow.Author.Rules.{rules}
 use Rattle.wire.specs.Digits.{octets_in}
 use Rattle.messages.specs.Read.{tag_write_reply_in}
 use Rattle.replies.proofs.ReplyLaws.{ways, octets_value, octets_bad, finds_behind, octets_read, refusal}

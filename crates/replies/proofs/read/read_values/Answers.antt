@@ -3,7 +3,6 @@ use mathlib.Core.Bool.{Bool, true, false, cond}
 use mathlib.Core.Option.{some}
 use mathlib.Core.Path.{◌≡◌}
 use Prim.Native.Nat.{ℕ}
-use borrow.Author.Rules.{rules}
 use Rattle.messages.specs.Message.Reply.{get_reply, set_reply}
 use Rattle.replies.specs.View.{reply, or_refused}
 use Rattle.replies.proofs.ReplyLaws.{ways}

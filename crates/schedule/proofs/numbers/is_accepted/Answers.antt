@@ -1,5 +1,4 @@
 -- One test that fails is enough to refuse; where the first six pass, the result is that of the last.
-use borrow.Author.Rules.{rules}
 use mathlib.Core.Bool.{Bool, true, false, not, and-false}
 use mathlib.Core.List.{List}
 use mathlib.Core.Path.{◌≡◌, sym, ◌∙◌}

@@ -1,5 +1,4 @@
 -- The input is kept as the definition says, and what is accepted fits.
-use borrow.Author.Rules.{rules}
 use Rattle.schedule.proofs.NumberLaws.{kept-fit}
 use Rattle.schedule.proofs.numbers.kept_fields.Goals as goal
 

@@ -1,5 +1,4 @@
 -- The fields are those of program k among the seven that were decoded.
-use borrow.Author.Rules.{rules}
 use mathlib.Core.List.{[]}
 use mathlib.Core.Path.{◌≡◌}
 use lib.ListN.{get_or}

@@ -1,10 +1,9 @@
 -- After k turns the first k programs are put.
-use borrow.Author.Rules.{rules}
 use mathlib.Core.Path.{◌≡◌, refl, ◌∙◌}
-use Prim.Native.Nat.{◌-◌, ◌≤◌, ◌<◌}
+use Prim.Native.Nat.{◌<◌}
 use native.Mathlib.Numerals.{add-one}
 use native.Mathlib.Omega.{arith}
-use Rattle.schedule.specs.Inner.{area_of, with_first}
+use Rattle.schedule.specs.Inner.{with_first}
 use Rattle.schedule.proofs.Packing.{packed-turn}
 use Rattle.schedule.proofs.programs.packed.Goals as goal
 

@@ -1,11 +1,7 @@
 -- After k turns the first k programs are put.
-use borrow.Author.Rules.{rules}
-use mathlib.Core.Path.{◌≡◌, refl, ◌∙◌}
-use Prim.Native.Nat.{◌-◌, ◌≤◌, ◌<◌}
-use native.Mathlib.Numerals.{add-one}
-use native.Mathlib.Omega.{arith}
+use mathlib.Core.Path.{◌≡◌}
+use Prim.Native.Nat.{◌-◌, ◌≤◌}
 use Rattle.schedule.specs.Inner.{area_of, with_first}
-use Rattle.schedule.proofs.Packing.{packed-turn}
 use Rattle.schedule.proofs.programs.packed.Given as goal
 
 abbrev pub invariant-loop-k : goal.invariant-loop-k

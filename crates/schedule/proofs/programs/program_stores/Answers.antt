@@ -1,5 +1,4 @@
 -- One row of the decoded programs is replaced, all are packed, and the five bytes of that program are stored.
-use borrow.Author.Rules.{rules}
 use mathlib.Core.List.{List, [], ◌++◌}
 use mathlib.Core.Path.{◌≡◌, ◌∙◌}
 use Prim.Native.Nat.{ℕ, ◌+◌, ◌-◌, ◌*◌, ◌<◌}

@@ -1,10 +1,8 @@
 -- After k turns the first k rows are the first k programs.
-use borrow.Author.Rules.{rules}
 use mathlib.Core.Path.{◌≡◌, refl}
-use Prim.Native.Nat.{◌-◌, ◌≤◌}
 use native.Mathlib.Numerals.{add-one}
 use native.Mathlib.Omega.{arith}
-use lib.ListN.{length, take, length-set}
+use lib.ListN.{length-set}
 use Rattle.schedule.specs.Programs.{first_programs}
 use Rattle.schedule.proofs.Packing.{programs-turn, programs-end}
 use Rattle.schedule.proofs.programs.programs_of.Goals as goal

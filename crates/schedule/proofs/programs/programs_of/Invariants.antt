@@ -1,12 +1,8 @@
 -- After k turns the first k rows are the first k programs.
-use borrow.Author.Rules.{rules}
-use mathlib.Core.Path.{◌≡◌, refl}
+use mathlib.Core.Path.{◌≡◌}
 use Prim.Native.Nat.{◌-◌, ◌≤◌}
-use native.Mathlib.Numerals.{add-one}
-use native.Mathlib.Omega.{arith}
-use lib.ListN.{length, take, length-set}
+use lib.ListN.{length, take}
 use Rattle.schedule.specs.Programs.{first_programs}
-use Rattle.schedule.proofs.Packing.{programs-turn, programs-end}
 use Rattle.schedule.proofs.programs.programs_of.Given as goal
 
 abbrev pub invariant-loop-k : goal.invariant-loop-k

@@ -1,5 +1,4 @@
 -- Seven fields, one after another.
-use borrow.Author.Rules.{rules}
 use native.Mathlib.Nat.{add-zero}
 use Rattle.schedule.proofs.programs.put_program.Goals as goal
 

@@ -1,11 +1,10 @@
 -- After k turns the first k programs have their three bytes, and every other byte is zero.
-use borrow.Author.Rules.{rules}
 use mathlib.Core.List.{List}
 use mathlib.Core.Path.{◌≡◌, refl, ◌∙◌}
-use Prim.Native.Nat.{ℕ, zero, suc, ◌+◌, ◌-◌, ◌*◌, ◌≤◌}
+use Prim.Native.Nat.{ℕ, ◌+◌, ◌*◌}
 use native.Mathlib.Numerals.{add-one}
 use native.Mathlib.Omega.{arith}
-use lib.ListN.{length, set, replicate, length-set}
+use lib.ListN.{set, length-set}
 use Rattle.schedule.proofs.programs.unused.Invariants.{first_unused}
 use Rattle.schedule.proofs.programs.unused.Goals as goal
 

@@ -1,5 +1,4 @@
 -- The ID is inside 1 to 8 where both tests have said so.
-use borrow.Author.Rules.{rules}
 use borrow.Author.Tests.{le-leb, lt-leb}
 use mathlib.Core.Option.{none, some}
 use mathlib.Core.Path.{◌≡◌}

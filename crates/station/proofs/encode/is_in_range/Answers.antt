@@ -1,5 +1,4 @@
 -- A power control, a date write and a schedule's requests are judged by their own tests; every other request is in range.
-use borrow.Author.Rules.{rules}
 use Rattle.station.proofs.Laws.{mode_range, date_range, schedule-range, schedule-beside, others-range}
 use Rattle.station.proofs.encode.is_in_range.Goals as goal
 

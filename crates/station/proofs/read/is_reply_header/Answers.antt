@@ -1,5 +1,4 @@
 -- The tests are those of the definition, in its order.
-use borrow.Author.Rules.{rules}
 use Rattle.station.specs.Read.{is_reply_header}
 use Rattle.station.proofs.read.is_reply_header.Goals as goal
 

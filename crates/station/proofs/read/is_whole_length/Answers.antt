@@ -1,6 +1,4 @@
 -- The two tests are those of the definition, in its order.
-use borrow.Author.Rules.{rules}
-use borrow.Author.Tests.{not-true, not-false}
 use mathlib.Core.Path.{sym, ◌∙◌}
 use Rattle.station.specs.Read.{is_whole_length}
 use Rattle.station.proofs.read.is_whole_length.Goals as goal

@@ -1,5 +1,4 @@
 -- The text between STX and ETX is that of a whole packet; what is read of it is told with the sender.
-use borrow.Author.Rules.{rules}
 use borrow.Author.Tests.{not-true, not-false}
 use mathlib.Core.Bool.{Bool, true, false, not}
 use mathlib.Core.List.{List}

@@ -1,5 +1,4 @@
 -- A length answers only a packet, and a refusal only a refusal.
-use borrow.Author.Rules.{rules}
 use mathlib.Core.Path.{◌≡◌, refl, ◌∙◌}
 use Prim.Native.Nat.{ℕ}
 use Rattle.wire.specs.Refusal.{number_of}

@@ -1,5 +1,4 @@
 -- The date's numbers are those of the definition, filled up with zeros.
-use borrow.Author.Rules.{rules}
 use mathlib.Core.List.{List, [], ◌∷◌}
 use mathlib.Core.Path.{◌≡◌}
 use Prim.Native.Nat.{ℕ}

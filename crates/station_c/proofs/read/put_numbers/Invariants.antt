@@ -1,13 +1,9 @@
 -- After i turns the first i numbers stand at the start, and each turn puts one more behind them.
 use mathlib.Core.List.{List}
-use Prim.Native.Nat.{ℕ, ◌+◌, ◌-◌, ◌<◌, ◌≤◌}
-use mathlib.Core.Path.{◌≡◌, refl, ◌∙◌}
-use native.Mathlib.Omega.{arith}
-use native.Mathlib.Numerals.{add-one}
-use lib.ListN.{length, take, get_or, set, length-set}
-use lib.Seq.{take-suc, length-take-le}
+use Prim.Native.Nat.{ℕ, ◌-◌, ◌≤◌}
+use mathlib.Core.Path.{◌≡◌}
+use lib.ListN.{length, take}
 use Rattle.wire.specs.Packet.{over}
-use Rattle.wire.proofs.PacketLaws.{over-set}
 use Rattle.station_c.proofs.read.put_numbers.Given as goal
 
 pub record Puts (numbers : List ℕ) (count : ℕ) (out₀ out : List ℕ) (i : ℕ) : Type 0 where

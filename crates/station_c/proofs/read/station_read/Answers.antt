@@ -1,6 +1,5 @@
 -- The tests of room are the definition's; then the answer is the reader's, and a reply is listed.
-use borrow.Author.Rules.{rules}
-use mathlib.Core.List.{List, [], map}
+use mathlib.Core.List.{List, []}
 use mathlib.Core.Path.{◌≡◌, refl, sym, ap, ◌∙◌}
 use Prim.Native.Nat.{ℕ, ◌+◌, ◌<◌, ◌≤◌}
 use native.Mathlib.Omega.{arith}

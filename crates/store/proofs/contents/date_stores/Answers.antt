@@ -1,5 +1,4 @@
 -- The date is stored in a copy of the first 12 bytes, and the bytes around it are copied from there.
-use borrow.Author.Rules.{rules}
 use mathlib.Core.List.{List, [], ◌++◌}
 use mathlib.Core.Path.{◌≡◌, ◌∙◌}
 use Prim.Native.Nat.{ℕ}

@@ -1,5 +1,4 @@
 -- A copy to the beginning of zeros leaves zeros past it.
-use borrow.Author.Rules.{rules}
 use mathlib.Core.List.{List, ◌++◌}
 use mathlib.Core.Path.{◌≡◌, ◌∙◌}
 use Prim.Native.Nat.{ℕ}

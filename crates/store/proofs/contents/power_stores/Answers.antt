@@ -1,5 +1,4 @@
 -- It is the change of one field.
-use borrow.Author.Rules.{rules}
 use Rattle.store.specs.Fields.{field_stores}
 use Rattle.store.proofs.contents.power_stores.Goals as goal
 

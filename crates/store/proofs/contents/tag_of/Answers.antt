@@ -1,5 +1,4 @@
 -- It is the text at the tag's place, as long as the tag's length says.
-use borrow.Author.Rules.{rules}
 use Rattle.store.specs.Contents.{tag_of}
 use Rattle.store.proofs.contents.tag_of.Goals as goal
 

@@ -1,5 +1,4 @@
 -- The two tags are stored, then bytes 10 and 11 of the head that has the lengths.
-use borrow.Author.Rules.{rules}
 use mathlib.Core.List.{List, [], ◌++◌, append_assoc}
 use mathlib.Core.Path.{◌≡◌, ◌∙◌}
 use Prim.Native.Nat.{ℕ}

@@ -1,5 +1,4 @@
 -- The bytes that have a bit of the field are the only ones of the plan.
-use borrow.Author.Rules.{rules}
 use mathlib.Core.List.{List, [], ◌++◌}
 use mathlib.Core.Path.{◌≡◌, ◌∙◌}
 use Prim.Native.Nat.{ℕ, ◌-◌}

@@ -1,5 +1,4 @@
 -- Any value of one bit is one that power may hold, so the other three groups of fields decide.
-use borrow.Author.Rules.{rules}
 use borrow.Author.Tests.{le-leb, not-true, not-false}
 use mathlib.Core.Bool.{Bool, true, false, not, ◌&&◌}
 use mathlib.Core.List.{List, ◌∷◌, ◌++◌}

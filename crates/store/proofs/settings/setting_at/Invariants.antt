@@ -1,15 +1,8 @@
 -- The rows before place i are not the one of the page and the code, so what is found is found in the rest.
-use borrow.Author.Rules.{rules}
-use mathlib.Core.Bool.{Bool, true, false, cond}
-use mathlib.Core.List.{List}
-use mathlib.Core.Option.{none, some}
-use mathlib.Core.Path.{◌≡◌, refl, sym, ap, ◌∙◌}
-use Prim.Native.Nat.{ℕ, ◌+◌, ◌-◌, ◌≤◌, ◌<◌}
-use native.Mathlib.Numerals.{add-one}
-use lib.ListN.{length, get_or, drop, drop_of_length-le}
-use lib.Seq.{drop-cons}
-use Rattle.store.specs.declared.settings.Row.{Row}
-use Rattle.store.specs.Settings.{settings, is_at, row_in, setting_at}
+use mathlib.Core.Path.{◌≡◌}
+use Prim.Native.Nat.{◌-◌}
+use lib.ListN.{length, drop}
+use Rattle.store.specs.Settings.{settings, row_in, setting_at}
 use Rattle.store.proofs.settings.setting_at.Given as goal
 
 abbrev pub invariant-loop-i : goal.invariant-loop-i

@@ -1,6 +1,5 @@
 -- Nothing without the lengths of the buffers; else the call is made and told.
 use Rattle.transcript.proofs.FeedLaws.{wrong_reply, no_room, told-fed}
-use borrow.Author.Rules.{rules}
 use Rattle.transcript.proofs.feed.feed.Goals as goal
 
 pub returns-then-reply-ne64 : goal.returns-then-reply-ne64

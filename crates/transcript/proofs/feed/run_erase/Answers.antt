@@ -1,13 +1,12 @@
 -- After i turns the board has made i steps.
-use Prim.Native.Nat.{ℕ, ◌+◌, ◌-◌, ◌≤◌, ◌<◌}
+use Prim.Native.Nat.{ℕ, ◌+◌, ◌≤◌, ◌<◌}
 use mathlib.Core.Path.{◌≡◌, refl, ◌∙◌}
 use native.Mathlib.Omega.{arith}
 use native.Mathlib.Numerals.{add-one}
-use borrow.Author.Rules.{rules}
 use lib.ListN.{length}
 use Rattle.calls.specs.Calls.{on_step}
 use Rattle.board.specs.BoardKind.{board_kind}
-use Rattle.board.specs.View.{gave, Result, result}
+use Rattle.board.specs.View.{Result, result}
 use Rattle.transcript.specs.Transcript.{after_steps}
 use Rattle.transcript.proofs.feed.run_erase.Invariants.{Stepped}
 use Rattle.transcript.proofs.feed.run_erase.Goals as goal

@@ -1,13 +1,8 @@
 -- After i turns the board has made i steps.
-use Prim.Native.Nat.{ℕ, ◌+◌, ◌-◌, ◌≤◌, ◌<◌}
-use mathlib.Core.Path.{◌≡◌, refl, ◌∙◌}
-use native.Mathlib.Omega.{arith}
-use native.Mathlib.Numerals.{add-one}
-use borrow.Author.Rules.{rules}
+use Prim.Native.Nat.{ℕ, ◌-◌, ◌≤◌}
+use mathlib.Core.Path.{◌≡◌}
 use lib.ListN.{length}
-use Rattle.calls.specs.Calls.{on_step}
-use Rattle.board.specs.BoardKind.{board_kind}
-use Rattle.board.specs.View.{gave, Result, result}
+use Rattle.board.specs.View.{gave, Result}
 use Rattle.transcript.specs.Transcript.{after_steps}
 use Rattle.transcript.proofs.feed.run_erase.Given as goal
 

@@ -5,7 +5,6 @@ use Prim.Native.Nat.{ℕ, ◌<◌}
 use native.Mathlib.Omega.{arith}
 use lib.ListN.{length, take}
 use lib.Seq.{take_all}
-use borrow.Author.Rules.{rules}
 use Rattle.transcript.proofs.line.at_most.Goals as goal
 
 all-counted : (s : List ℕ) (count : ℕ) → length s < count → take (length s) s ≡ take count s

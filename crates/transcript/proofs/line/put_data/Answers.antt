@@ -1,7 +1,6 @@
 -- The matched case of the answer says what is written.
 use native.Mathlib.Omega.{arith}
 use Rattle.transcript.proofs.LineLaws.{refusal-put, reply-put, no_data_put}
-use borrow.Author.Rules.{rules}
 use Rattle.transcript.proofs.line.put_data.Goals as goal
 
 pub returns-in-Refused : goal.returns-in-Refused

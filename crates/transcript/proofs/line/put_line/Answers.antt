@@ -2,7 +2,6 @@
 use native.Mathlib.Omega.{arith}
 use lib.ListN.{length-set}
 use Rattle.transcript.proofs.LineLaws.{untold-count, untold-over, line_count, line_over}
-use borrow.Author.Rules.{rules}
 use Rattle.transcript.proofs.line.put_line.Goals as goal
 
 pub returns-in-Waiting : goal.returns-in-Waiting

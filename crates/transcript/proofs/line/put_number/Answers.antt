@@ -2,7 +2,6 @@
 use native.Mathlib.Omega.{arith}
 use lib.ListN.{length-set}
 use Rattle.transcript.proofs.LineLaws.{space_kept, number_put}
-use borrow.Author.Rules.{rules}
 use Rattle.transcript.proofs.line.put_number.Goals as goal
 
 pub put_count-requires : goal.put_count-requires

@@ -1,7 +1,6 @@
 -- Each case writes its own text.
 use native.Mathlib.Omega.{arith}
 use Rattle.transcript.proofs.LineLaws.{word-put, no_word_put}
-use borrow.Author.Rules.{rules}
 use Rattle.transcript.proofs.line.put_word.Goals as goal
 
 pub returns-in-Silent : goal.returns-in-Silent

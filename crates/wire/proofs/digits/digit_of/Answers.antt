@@ -1,5 +1,4 @@
 -- Ten is where the digits go on with letters, in the code as in the definition.
-use borrow.Author.Rules.{rules}
 use Rattle.wire.proofs.Tests.{tests}
 use Rattle.wire.proofs.digits.digit_of.Goals as goal
 

@@ -3,7 +3,6 @@ use mathlib.Core.List.{List}
 use mathlib.Core.Option.{none, some}
 use mathlib.Core.Path.{◌≡◌}
 use Prim.Native.Nat.{ℕ, ◌+◌, ◌*◌}
-use borrow.Author.Rules.{rules}
 use Rattle.wire.specs.Digits.{four_at, octet, two_at}
 use Rattle.wire.specs.declared.digits.Octet.{Octet}
 use Rattle.wire.proofs.digits.four_at.Goals as goal

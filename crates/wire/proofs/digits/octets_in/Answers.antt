@@ -3,10 +3,9 @@ use mathlib.Core.List.{List, [], ◌∷◌, ◌++◌}
 use mathlib.Core.Option.{none, some}
 use mathlib.Core.Logic.{◌≢◌}
 use mathlib.Core.Path.{◌≡◌, refl, ap, sym, ◌∙◌}
-use Prim.Native.Nat.{ℕ, ◌+◌, ◌-◌, ◌≤◌, ◌<◌}
+use Prim.Native.Nat.{ℕ, ◌+◌, ◌≤◌, ◌<◌}
 use native.Mathlib.Numerals.{add-one}
 use native.Mathlib.Omega.{arith}
-use borrow.Author.Rules.{rules}
 use borrow.Author.Tests.{lt-ltb, le-ltb, eq-eqb, ne_eqb}
 use lib.ListN.{length, drop, take, set, replicate, length-set, take-append-drop}
 use lib.Seq.{length-take-le, take-suc-set, drop-set-lt, drop-drop}
@@ -14,7 +13,7 @@ use Rattle.wire.specs.Digits.{octet, two_at, unhex, octets_in, padded, FindsOcte
 use Rattle.wire.specs.declared.digits.Count.{Count}
 use Rattle.wire.specs.declared.digits.Octet.{Octet}
 use Rattle.wire.specs.declared.digits.Octets.{Octets}
-use Rattle.wire.proofs.DigitLaws.{before, before-first, before-one_more, unhex-step, unhex-end}
+use Rattle.wire.proofs.DigitLaws.{before-first, before-one_more, unhex-step, unhex-end}
 use Rattle.wire.proofs.digits.octets_in.Invariants.{Taken}
 use Rattle.wire.proofs.digits.octets_in.Goals as goal
 

@@ -1,20 +1,10 @@
 -- After i turns the first i bytes stand before what the digits left over give, and each turn takes one byte across.
-use mathlib.Core.List.{List, [], ◌∷◌, ◌++◌}
-use mathlib.Core.Option.{none, some}
-use mathlib.Core.Logic.{◌≢◌}
-use mathlib.Core.Path.{◌≡◌, refl, ap, sym, ◌∙◌}
-use Prim.Native.Nat.{ℕ, ◌+◌, ◌-◌, ◌≤◌, ◌<◌}
-use native.Mathlib.Numerals.{add-one}
-use native.Mathlib.Omega.{arith}
-use borrow.Author.Rules.{rules}
-use borrow.Author.Tests.{lt-ltb, le-ltb, eq-eqb, ne_eqb}
-use lib.ListN.{length, drop, take, set, replicate, length-set, take-append-drop}
-use lib.Seq.{length-take-le, take-suc-set, drop-set-lt, drop-drop}
-use Rattle.wire.specs.Digits.{octet, two_at, unhex, octets_in, padded, FindsOctets}
-use Rattle.wire.specs.declared.digits.Count.{Count}
-use Rattle.wire.specs.declared.digits.Octet.{Octet}
-use Rattle.wire.specs.declared.digits.Octets.{Octets}
-use Rattle.wire.proofs.DigitLaws.{before, before-first, before-one_more, unhex-step, unhex-end}
+use mathlib.Core.List.{List}
+use mathlib.Core.Path.{◌≡◌}
+use Prim.Native.Nat.{ℕ, ◌+◌, ◌-◌, ◌≤◌}
+use lib.ListN.{length, drop, take, replicate}
+use Rattle.wire.specs.Digits.{unhex}
+use Rattle.wire.proofs.DigitLaws.{before}
 use Rattle.wire.proofs.digits.octets_in.Given as goal
 
 -- the first i bytes are what the first digits of t give, and zeros stand behind them

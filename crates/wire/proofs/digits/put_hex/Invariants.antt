@@ -1,12 +1,10 @@
 -- After i turns the digits of the first i bytes are pasted, and each turn pastes two more.
 use mathlib.Core.List.{List}
-use mathlib.Core.Path.{◌≡◌, refl, ◌∙◌}
-use Prim.Native.Nat.{ℕ, ◌+◌, ◌-◌, ◌≤◌, ◌<◌}
-use native.Mathlib.Omega.{arith}
-use lib.ListN.{length, get_or}
-use lib.Seq.{paste, paste-zero}
-use Rattle.wire.specs.Digits.{two, hex_of}
-use Rattle.wire.proofs.DigitLaws.{hex_length, hex_at, paste_more}
+use mathlib.Core.Path.{◌≡◌}
+use Prim.Native.Nat.{ℕ, ◌+◌, ◌-◌, ◌≤◌}
+use lib.ListN.{length}
+use lib.Seq.{paste}
+use Rattle.wire.specs.Digits.{hex_of}
 use Rattle.wire.proofs.digits.put_hex.Given as goal
 
 -- the digits of the first i bytes of s stand at a place

@@ -1,5 +1,4 @@
 -- The packet has as many bytes as its size says.
-use borrow.Author.Rules.{rules}
 use Rattle.wire.specs.Judge.{ends_in_return}
 use Rattle.wire.proofs.packet.ends_in_return.Goals as goal
 

@@ -1,5 +1,4 @@
 -- The packet has as many bytes as its size says.
-use borrow.Author.Rules.{rules}
 use Rattle.wire.specs.Judge.{has_check_code}
 use Rattle.wire.proofs.packet.has_check_code.Goals as goal
 

@@ -1,5 +1,4 @@
 -- The packet has as many bytes as its size says.
-use borrow.Author.Rules.{rules}
 use Rattle.wire.specs.Judge.{is_message}
 use Rattle.wire.proofs.packet.is_message.Goals as goal
 

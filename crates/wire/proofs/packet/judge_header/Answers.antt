@@ -1,5 +1,4 @@
 -- Each test on the way is a test of the definition; a law for each return.
-use borrow.Author.Rules.{rules}
 use mathlib.Core.Bool.{Bool, true, false, not}
 use mathlib.Core.List.{List}
 use mathlib.Core.Path.{◌≡◌}

@@ -2,7 +2,6 @@
 use mathlib.Core.List.{List}
 use mathlib.Core.Path.{◌≡◌}
 use Prim.Native.Nat.{ℕ, ◌+◌}
-use borrow.Author.Rules.{rules}
 use Rattle.wire.specs.Digits.{octet, two_at}
 use Rattle.wire.specs.Packet.{size}
 use Rattle.wire.specs.declared.digits.Octet.{Octet}

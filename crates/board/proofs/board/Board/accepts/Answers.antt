@@ -1,5 +1,4 @@
 -- A sound board holds a proper beginning, so the receiver takes the byte, and a whole packet is one that may act.
-use borrow.Author.Rules.{rules}
 use Rattle.board.proofs.CallLaws.{held-proper, wanted_next, waits-plans, declines_plans, acts-plans, acting}
 use Rattle.board.proofs.board.Board.accepts.Goals as goal
 

@@ -1,5 +1,4 @@
 -- The plan is committed.
-use borrow.Author.Rules.{rules}
 use Rattle.board.proofs.CallLaws.{call-plan_fits, call_gives}
 use Rattle.board.proofs.board.Board.byte.Goals as goal
 

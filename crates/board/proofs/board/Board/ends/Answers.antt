@@ -1,5 +1,4 @@
 -- A plan of one byte, the unused mark; and the last answer.
-use borrow.Author.Rules.{rules}
 use Rattle.board.proofs.board.Board.ends.Goals as goal
 
 pub returns : goal.returns

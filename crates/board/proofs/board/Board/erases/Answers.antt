@@ -1,5 +1,4 @@
 -- Up to place 127 a byte is cleared, and past it the erase ends.
-use borrow.Author.Rules.{rules}
 use Rattle.board.proofs.CallLaws.{clears-plans, ends-plans}
 use Rattle.board.proofs.board.Board.erases.Goals as goal
 

@@ -1,5 +1,4 @@
 -- The entry check refuses, or nothing is held any more.
-use borrow.Author.Rules.{rules}
 use Rattle.board.proofs.CallLaws.{call-refused_gives, gap-gives}
 use Rattle.board.proofs.board.Board.gap.Goals as goal
 

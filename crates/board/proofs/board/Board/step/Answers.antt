@@ -1,5 +1,4 @@
 -- The plan is committed.
-use borrow.Author.Rules.{rules}
 use Rattle.board.proofs.CallLaws.{step-plan_fits, step_gives}
 use Rattle.board.proofs.board.Board.step.Goals as goal
 
