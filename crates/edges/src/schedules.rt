@@ -5,6 +5,7 @@ use crate::show;
 pub fn all(rt: &impl Print) {
     times(rt);
     limits(rt);
+    inputs(rt);
     programs(rt);
 }
 
@@ -74,6 +75,10 @@ fn limits(rt: &impl Print) {
         1,
         b"\x010A0A26\x02C22200183C183C0000000000000000000001\x03u\x0D",
     );
+}
+
+// The last input, and one that there is not.
+fn inputs(rt: &impl Print) {
     show(
         rt,
         b"INPUT 17\n",
