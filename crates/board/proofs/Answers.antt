@@ -1,7 +1,10 @@
--- The seven answers by their places: what `let .. else` tells of an answer is that it is none but the others.
-use mathlib.Core.List.{List, [], ◌∷◌, ◌++◌}
-use Prim.Native.Nat.{ℕ, suc}
-use lib.ListN.{take, drop}
+-- What a branch for every other answer tells of an answer that is no refusal, or no reply.
+use Rattle.std.proofs.Common.{◌≡◌, ℕ}
+use Rattle.wire.specs.declared.refusal.Refusal.{Refusal}
+use Rattle.board.specs.declared.board.Answer.{Answer}
 
-abbrev pub all_but : ℕ → List ℕ
-all_but n = let all : List ℕ = 0 ∷ 1 ∷ 2 ∷ 3 ∷ 4 ∷ 5 ∷ 6 ∷ [] in take n all ++ drop (suc n) all
+abbrev pub IsNoRefusal : Answer → Type 0
+IsNoRefusal a = (r : Refusal) → a ≡ Answer.Refused r → ⊥
+
+abbrev pub IsNoReply : Answer → Type 0
+IsNoReply a = (n : ℕ) → a ≡ Answer.Reply n → ⊥

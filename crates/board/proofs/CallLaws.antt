@@ -116,31 +116,21 @@ module _ (b : Board) (m : List ℕ) (serial : length b.serial.bytes ≡ 16) (mod
 abbrev pub Entered : EntryCheck → (short : Bool) → BoardState → List ℕ → Type 0
 Entered e short s m = entry_check_as e ≡ entry_check_of board_kind short s m
 
--- an entry that stops a call, and one that stops a step: the places of all answers of the check but one
-abbrev not_idle : List ℕ
-not_idle = 0 ∷ 1 ∷ 3 ∷ []
-
-abbrev not_pending : List ℕ
-not_pending = 0 ∷ 1 ∷ 2 ∷ []
-
-call-stopped : (c : Call) (s : BoardState) (m lent : List ℕ) (e : EntryCheck) → OneOf not_idle (tag_of the_type e)
+call-stopped : (c : Call) (s : BoardState) (m lent : List ℕ) (e : EntryCheck) → (e ≡ EntryCheck.NonePending → ⊥)
     → call_on board_kind (entry_check_as e) c s m lent ≡ refuse board_kind (refusal_at (entry_check_as e) 9) s lent
 unfolding call_on
 call-stopped c s m lent EntryCheck.ShortBuffer k = refl
 call-stopped c s m lent EntryCheck.Unsound k = refl
-call-stopped c s m lent EntryCheck.NonePending k = absurd (miss not_idle 2 tt k)
+call-stopped c s m lent EntryCheck.NonePending k = absurd (k refl)
 call-stopped c s m lent EntryCheck.Pending k = refl
 
-step-stopped : (s : BoardState) (lent : List ℕ) (e : EntryCheck) → OneOf not_pending (tag_of the_type e)
+step-stopped : (s : BoardState) (lent : List ℕ) (e : EntryCheck) → (e ≡ EntryCheck.Pending → ⊥)
     → step_on board_kind (entry_check_as e) s lent ≡ refuse board_kind (refusal_at (entry_check_as e) 13) s lent
 unfolding step_on
 step-stopped s lent EntryCheck.ShortBuffer k = refl
 step-stopped s lent EntryCheck.Unsound k = refl
 step-stopped s lent EntryCheck.NonePending k = refl
-step-stopped s lent EntryCheck.Pending k = absurd (miss not_pending 3 tt k)
-
-abbrev not_begun_tags : List ℕ
-not_begun_tags = 0 ∷ 1 ∷ 3 ∷ []
+step-stopped s lent EntryCheck.Pending k = absurd (k refl)
 
 -- these refusals change nothing
 call-number : (e : EntryCheck) → changes_nothing (refusal_at (entry_check_as e) 9) ≡ true
@@ -161,7 +151,7 @@ module _ (c : Call) (b : Board) (m lent : List ℕ) (entry : EntryCheck) (short 
   unfolding on_call
   call-entered = rw (told, lent-short)
 
-  module _ (r : Refusal) (number : number_of r ≡ refusal_at (entry_check_as entry) 9) (k : OneOf not_idle (tag_of the_type entry)) where
+  module _ (r : Refusal) (number : number_of r ≡ refusal_at (entry_check_as entry) 9) (k : (entry ≡ EntryCheck.NonePending → ⊥)) where
     call-refused_is : on_call board_kind c (state_of b) m lent ≡ refuse board_kind (number_of r) (state_of b) lent
     call-refused_is = call-entered ∙ call-stopped c (state_of b) m lent entry k ∙ rw number
 
@@ -190,7 +180,7 @@ module _ (b : Board) (m lent : List ℕ) (entry : EntryCheck) (told : Entered en
   step-entered = rw told
 
   pub step-refused_plans : (p : Planned) (r : Refusal) → Planning p b (Answer.Refused r) [] → number_of r ≡ refusal_at (entry_check_as entry) 13
-      → OneOf not_pending (tag_of the_type entry) → Plans p lent (step_leaves b) (on_step board_kind (state_of b) m lent)
+      → (entry ≡ EntryCheck.Pending → ⊥) → Plans p lent (step_leaves b) (on_step board_kind (state_of b) m lent)
   unfolding refuse
   step-refused_plans p r is number k =
       let q : on_step board_kind (state_of b) m lent ≡ refuse board_kind (number_of r) (state_of b) lent
@@ -463,6 +453,9 @@ packet-leaves b x next s calls.silent e h = e
 packet-leaves b x next s calls.begun e h = refl
 packet-leaves b x next s (calls.refused n) e h = e ∙ rw h
 packet-leaves b x next s (calls.reply n) e h = e
+packet-leaves b x next s calls.waiting e h = elim h [ ]
+packet-leaves b x next s calls.more e h = elim h [ ]
+packet-leaves b x next s calls.ended e h = elim h [ ]
 
 with-either : (b : Board) (r : Receiver) (t : Bool) → with_receiver b (cond t b.receiver r) ≡ cond t b (with_receiver b r)
 with-either b r true = refl
@@ -476,7 +469,7 @@ module _ (b : Board) (r : packets.Planned) (m lent lent' : List ℕ) (o : BoardO
   acted_begun owed e next is z says =
       rw (← told, e) (record { outcome = rw (is, fresh-state (state_of b).ident (Erase.Pending 1 owed), says, e); value = is })
 
-  pub acted_other : OneOf not_begun_tags (tag_of acts.the_type r.acted) → b.erase ≡ Erase.Idle → b.receiver.len ≡ 0
+  pub acted_other : ((owed : Bool) → r.acted ≡ Acted.Begun owed → ⊥) → b.erase ≡ Erase.Idle → b.receiver.len ≡ 0
       → (z : Answer) → answer_of z ≡ answer_after r.acted → Plans (record { board = b; answer = z; plan = r.plan }) lent' (packet_leaves b) o
   acted_other k rested none z says =
       rw (← told)
@@ -485,16 +478,16 @@ module _ (b : Board) (r : packets.Planned) (m lent lent' : List ℕ) (o : BoardO
         value = other-leaves r.acted k;
       })
     where
-      other-erase : (x : Acted) → OneOf not_begun_tags (tag_of acts.the_type x) → erase_after x ≡ idle
+      other-erase : (x : Acted) → ((owed : Bool) → x ≡ Acted.Begun owed → ⊥) → erase_after x ≡ idle
       other-erase Acted.Refused k = refl
       other-erase Acted.Silent k = refl
-      other-erase (Acted.Begun owed) k = absurd (miss not_begun_tags 2 tt k)
+      other-erase (Acted.Begun owed) k = absurd (k owed refl)
       other-erase (Acted.Reply n) k = refl
 
-      other-leaves : (x : Acted) → OneOf not_begun_tags (tag_of acts.the_type x) → b ≡ packet_leaves_by b (record { ident = (state_of b).ident; held = []; erase = erase_after x }) (answer_after x)
+      other-leaves : (x : Acted) → ((owed : Bool) → x ≡ Acted.Begun owed → ⊥) → b ≡ packet_leaves_by b (record { ident = (state_of b).ident; held = []; erase = erase_after x }) (answer_after x)
       other-leaves Acted.Refused k = refl
       other-leaves Acted.Silent k = refl
-      other-leaves (Acted.Begun owed) k = absurd (miss not_begun_tags 2 tt k)
+      other-leaves (Acted.Begun owed) k = absurd (k owed refl)
       other-leaves (Acted.Reply n) k = refl
 
 module _ (b : Board) (wanted : ℕ) (m lent : List ℕ) (a : Accepting b wanted m lent) where

@@ -4,8 +4,6 @@ use mathlib.Core.Bool.{Bool, true, false, cond, ◌&&◌, ◌||◌}
 use mathlib.Core.List.{List, []}
 use mathlib.Core.Path.{◌≡◌, refl, sym, ap, ◌∙◌, subst}
 use native.Mathlib.Omega.{arith}
-use types.Run.{OneOf, miss}
-use denote.Enum.Declared.{tag_of}
 use borrow.Author.Tests.{eqb-true, eqb-false, ne_eqb, lt-leb}
 use lib.Dec.{eqb, leb}
 use lib.ListN.{length}
@@ -19,8 +17,7 @@ use Rattle.board.specs.View.{state_of, answer_of, answer_kind, Result, Gives}
 use Rattle.board.specs.Values.{call_leaves, step_leaves}
 use Rattle.board.specs.Inner.{Sized}
 use Rattle.board.specs.declared.board.Answer.{Answer}
-use Rattle.board.proofs.Answers.{all_but}
-use Rattle.board.specs.contracts.board.Answer.{the_type}
+use Rattle.board.proofs.Answers.{IsNoRefusal, IsNoReply}
 use Rattle.board.specs.declared.board.Board.{Board}
 use Rattle.board.specs.declared.board.Done.{Done}
 use Rattle.board.proofs.RefusalLaws.{Refused, unchanged, emptied, refused-by_check, call-refused, step-refused}
@@ -31,24 +28,24 @@ use Rattle.board_c.proofs.Theorems.{board-back, other-size_refused}
 
 -- ---- answers by their places
 
-pub not_refused : (a : Answer) → OneOf (all_but 5) (tag_of the_type a) → false ≡ keeps_all (answer_of a)
+pub not_refused : (a : Answer) → IsNoRefusal a → false ≡ keeps_all (answer_of a)
 not_refused Answer.Waiting k = refl
 not_refused Answer.Silent k = refl
 not_refused Answer.Begun k = refl
 not_refused Answer.More k = refl
 not_refused Answer.Ended k = refl
-not_refused (Answer.Refused r) k = absurd (miss (all_but 5) 5 tt k)
+not_refused (Answer.Refused r) k = absurd (k r refl)
 not_refused (Answer.Reply n) k = refl
 
-pub neither_told : (a : Answer) (refusal size : ℕ) → OneOf (all_but 5) (tag_of the_type a) → OneOf (all_but 6) (tag_of the_type a)
+pub neither_told : (a : Answer) (refusal size : ℕ) → IsNoRefusal a → IsNoReply a
     → Places (answer_of a) refusal refusal size size
 neither_told Answer.Waiting refusal size k l = record { refused = refl; replied = refl }
 neither_told Answer.Silent refusal size k l = record { refused = refl; replied = refl }
 neither_told Answer.Begun refusal size k l = record { refused = refl; replied = refl }
 neither_told Answer.More refusal size k l = record { refused = refl; replied = refl }
 neither_told Answer.Ended refusal size k l = record { refused = refl; replied = refl }
-neither_told (Answer.Refused r) refusal size k l = absurd (miss (all_but 5) 5 tt k)
-neither_told (Answer.Reply n) refusal size k l = absurd (miss (all_but 6) 6 tt l)
+neither_told (Answer.Refused r) refusal size k l = absurd (k r refl)
+neither_told (Answer.Reply n) refusal size k l = absurd (l n refl)
 
 pub refusal-told : (a : Answer) (r : Refusal) (refusal n size : ℕ) → a ≡ Answer.Refused r → n ≡ number_of r → Places (answer_of a) refusal n size size
 refusal-told a r refusal n size q e = rw q (record { refused = e; replied = refl })

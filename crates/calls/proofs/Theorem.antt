@@ -40,7 +40,7 @@ module _ {K : Kind} (L : Laws K) where
   pending-run {i} {n} {m} (step lent ∷ es) owed h =
       pending_step L (λ o. seen_from i m es o ≡ expected K i owed n m (step lent ∷ es)) owed lent h
       (λ t. simp (t, pending-run es owed h))
-      (λ t u. simp (t, u, pending-run es owed (pending_next L h (ltb-true n 127 u))))
+      (λ t u. simp (t, u, pending-run {n = suc n} es owed (pending_next L h (ltb-true n 127 u))))
       (λ t u. simp (t, u, pending_last L h (ltb-false n 127 u), unused-run es h.named))
 
   -- ---- what is seen after the 128th step

@@ -1,6 +1,4 @@
 -- What `play_erase` leaves: where the byte began an erase, the run after it is demand 3's.
-use types.Run.{OneOf, miss}
-use denote.Enum.Declared.{tag_of}
 use mathlib.Core.List.{List}
 use mathlib.Core.Path.{◌≡◌, refl, sym, ap, ◌∙◌}
 use Prim.Native.Nat.{ℕ}
@@ -14,17 +12,15 @@ use Rattle.board.specs.Demand3.{Events, Trace, expected, owed}
 use Rattle.board.specs.View.{state_of, answer_of, gave, Result, result}
 use Rattle.board.specs.declared.board.Answer.{Answer}
 use Rattle.board.specs.declared.board.Done.{Done}
-use Rattle.board.proofs.Answers.{all_but}
-use Rattle.board.specs.contracts.board.Answer.{the_type}
 use Rattle.board.proofs.Demand3.{demand3}
 use Rattle.play.specs.Play.{events_in, Plays}
 use Rattle.play.specs.Erase.{outcome, accepted, PlaysErase, PlaysNone}
 
 -- an answer other than the third is not erase begun
-not_begun : (a : Answer) → OneOf (all_but 2) (tag_of the_type a) → answer_of a ≡ begun → ⊥
+not_begun : (a : Answer) → (a ≡ Answer.Begun → ⊥) → answer_of a ≡ begun → ⊥
 not_begun Answer.Waiting k e = let z : ◌≡◌ {A = ℕ} 0 1 = cc in omega arith
 not_begun Answer.Silent k e = let z : ◌≡◌ {A = ℕ} 0 1 = cc in omega arith
-not_begun Answer.Begun k e = miss (all_but 2) 2 tt k
+not_begun Answer.Begun k e = k refl
 not_begun Answer.More k e = let z : ◌≡◌ {A = ℕ} 0 1 = cc in omega arith
 not_begun Answer.Ended k e = let z : ◌≡◌ {A = ℕ} 0 1 = cc in omega arith
 not_begun (Answer.Refused r) k e = let z : ◌≡◌ {A = ℕ} 0 1 = cc in omega arith
@@ -58,7 +54,7 @@ module _ (d : Done) (b : ℕ) (s : BoardState) (m m₁ reply reply₁ : List ℕ
   stored : m₁ ≡ after (outcome b s m reply) m
   stored = ap (λ (r : Result). r.store) given
 
-  pub none-played : (lent log : List ℕ) → OneOf (all_but 2) (tag_of the_type d.answer) → PlaysNone b s m m₁ reply reply₁ lent lent log log
+  pub none-played : (lent log : List ℕ) → (d.answer ≡ Answer.Begun → ⊥) → PlaysNone b s m m₁ reply reply₁ lent lent log log
   none-played lent log k =
       record {
         not_begun = λ e. not_begun d.answer k (ap (λ (r : Result). r.answer) given ∙ e);

@@ -1,6 +1,4 @@
 -- Laws of a run's parts: what is written at the start of a list, what a call, a gap and a start show, and what is entered of it.
-use types.Run.{OneOf, miss}
-use denote.Enum.Declared.{tag_of}
 use mathlib.Core.Bool.{true, false, true≢false}
 use mathlib.Core.List.{List, [], ◌∷◌, ◌++◌, append_assoc}
 use mathlib.Core.Option.{some-ne-none}
@@ -25,8 +23,7 @@ use Rattle.board.specs.declared.board.Answer.{Answer}
 use Rattle.board.specs.declared.board.Done.{Done}
 use Rattle.board.specs.declared.board.Started.{Started}
 use Rattle.board.specs.declared.board.StartAnswer.{StartAnswer}
-use Rattle.board.proofs.Answers.{all_but}
-use Rattle.board.specs.contracts.board.Answer.{the_type}
+use Rattle.board.proofs.Answers.{IsNoRefusal, IsNoReply}
 use Rattle.wire.specs.declared.refusal.Refusal.{Refusal}
 use Rattle.play.specs.Play.{event_of, number_in}
 use Rattle.play.specs.Inner.{Turns, Restarts, Enters}
@@ -39,14 +36,14 @@ pub refusal-number : (a : Answer) (r : Refusal) (n : ℕ) → a ≡ Answer.Refus
 refusal-number a r n e q = rw e q
 
 -- an answer that is no refusal and no reply has none
-pub no_number : (a : Answer) → OneOf (all_but 5) (tag_of the_type a) → OneOf (all_but 6) (tag_of the_type a) → 0 ≡ number_in (answer_of a)
+pub no_number : (a : Answer) → IsNoRefusal a → IsNoReply a → 0 ≡ number_in (answer_of a)
 no_number Answer.Waiting k l = refl
 no_number Answer.Silent k l = refl
 no_number Answer.Begun k l = refl
 no_number Answer.More k l = refl
 no_number Answer.Ended k l = refl
-no_number (Answer.Refused r) k l = absurd (miss (all_but 5) 5 tt k)
-no_number (Answer.Reply n) k l = absurd (miss (all_but 6) 6 tt l)
+no_number (Answer.Refused r) k l = absurd (k r refl)
+no_number (Answer.Reply n) k l = absurd (l n refl)
 
 -- ---- written at the start of a list
 

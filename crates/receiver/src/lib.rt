@@ -73,9 +73,9 @@ impl Receiver {
 
     // One byte. Held bytes that are no proper beginning of a packet are refused, unchanged.
     pub fn byte(self, b: u8) -> Received
-        ensures result_value { receipt result ≡ on_byte (held_of self) b }
-        ensures whole_of { WholeOf result.answer (self.len + 1) }
-        ensures receiver_value { result.receiver ≡ receiver_after self b (on_byte (held_of self) b).answer }
+        ensures receipt { receipt result ≡ on_byte (held_of self) b }
+        ensures whole { WholeOf result.answer (self.len + 1) }
+        ensures receiver { result.receiver ≡ receiver_after self b (on_byte (held_of self) b).answer }
     {
         let asked = self.asked();
         if asked == 0 {
@@ -89,11 +89,11 @@ impl Receiver {
 
     // One byte behind held ones that are a proper beginning and ask for so many.
     pub fn accept(self, asked: u8, b: u8) -> Received
-        requires self_value { is_proper_beginning (held_of self) ≡ true }
-        requires asked_value { asked ≡ checkpoint (held_of self) }
-        ensures result_value { receipt result ≡ accept (held_of self) b }
-        ensures whole_of { WholeOf result.answer (self.len + 1) }
-        ensures receiver_value { result.receiver ≡ receiver_after self b (accept (held_of self) b).answer }
+        requires proper { is_proper_beginning (held_of self) ≡ true }
+        requires asked { asked ≡ checkpoint (held_of self) }
+        ensures receipt { receipt result ≡ accept (held_of self) b }
+        ensures whole { WholeOf result.answer (self.len + 1) }
+        ensures receiver { result.receiver ≡ receiver_after self b (accept (held_of self) b).answer }
     {
         let len = self.len;
         let mut held = self.held;
@@ -107,8 +107,8 @@ impl Receiver {
 
     // A gap empties the receiver.
     pub fn gap(mut self) -> Received
-        ensures result_value { receipt result ≡ on_gap }
-        ensures receiver_value { result.receiver ≡ emptied self }
+        ensures receipt { receipt result ≡ on_gap }
+        ensures receiver { result.receiver ≡ emptied self }
     {
         self.len = 0;
         Received {
@@ -160,13 +160,13 @@ fn asked_behind_header(bytes: &[u8], len: u8) -> u8
 
 // One byte behind the first len, which are a proper beginning and ask for so many. With refusal 1 the array is as it was.
 pub fn advance(held: &mut [u8; packet::MOST_PACKET], len: u8, asked: u8, b: u8) -> Reception
-    requires held_value { is_proper_beginning (take len held.old) ≡ true }
-    requires asked_value { asked ≡ checkpoint (take len held.old) }
-    ensures len_bound { len ≤ 72 }
-    ensures held_after { reception_in result held.new ≡ (accept (take len held.old) b).answer }
-    ensures whole_of { WholeOf result (len + 1) }
-    ensures held_after_2 { take (kept_after result (len + 1)) held.new ≡ (accept (take len held.old) b).held }
-    ensures held_after_3 { held.new ≡ array_after held.old len b (accept (take len held.old) b).answer }
+    requires proper { is_proper_beginning (take len held.old) ≡ true }
+    requires asked { asked ≡ checkpoint (take len held.old) }
+    ensures few { len ≤ 72 }
+    ensures answer { reception_in result held.new ≡ (accept (take len held.old) b).answer }
+    ensures whole { WholeOf result (len + 1) }
+    ensures held { take (kept_after result (len + 1)) held.new ≡ (accept (take len held.old) b).held }
+    ensures array { held.new ≡ array_after held.old len b (accept (take len held.old) b).answer }
 {
     if (len == 0) & (b != packet::SOH) {
         return Reception::Refused(Refusal::NoStart);
@@ -179,8 +179,8 @@ pub fn advance(held: &mut [u8; packet::MOST_PACKET], len: u8, asked: u8, b: u8) 
 // What the first n bytes come to, the last of them new, where so many were asked for.
 fn reached(bytes: &[u8], n: u8, asked: u8) -> Reception
     requires { (n ≤ length bytes.now) × GrownBeginning (take n bytes.now) asked }
-    ensures bytes_value { reception_in result bytes.now ≡ (grown (take n bytes.now)).answer }
-    ensures whole_of { WholeOf result n }
+    ensures answer { reception_in result bytes.now ≡ (grown (take n bytes.now)).answer }
+    ensures whole { WholeOf result n }
 {
     if n < asked {
         return Reception::Waiting;
@@ -191,8 +191,8 @@ fn reached(bytes: &[u8], n: u8, asked: u8) -> Reception
 // What the first n bytes come to, seven or more.
 fn judge(bytes: &[u8], n: u8) -> Reception
     requires { (7 ≤ n) × (n ≤ length bytes.now) × GrownBeginning (take n bytes.now) n }
-    ensures bytes_value { reception_in result bytes.now ≡ (grown (take n bytes.now)).answer }
-    ensures whole_of { WholeOf result n }
+    ensures answer { reception_in result bytes.now ≡ (grown (take n bytes.now)).answer }
+    ensures whole { WholeOf result n }
 {
     let count = n as usize;
     let held = &bytes[..count];

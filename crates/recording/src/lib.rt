@@ -42,8 +42,8 @@ pub extern "C" fn recording_count(recording: &[u8], refused: &mut u64) -> u64
 // One byte more.
 fn tallied(held: &mut [u8; packet::MOST_PACKET], tally: Tally, b: u8) -> Tally
     requires asking { Asking (take tally.len held.old) tally.asked }
-    requires packets_bound { (tally.packets < 18446744073709551615) × (tally.refusals < 18446744073709551615) }
-    ensures asking_2 { Asking (take result.len held.new) result.asked }
+    requires room { (tally.packets < 18446744073709551615) × (tally.refusals < 18446744073709551615) }
+    ensures asking { Asking (take result.len held.new) result.asked }
     ensures counts { Counts (accept (take tally.len held.old) b) tally.packets tally.refusals (take result.len held.new) result.packets result.refusals }
 {
     match receiver::advance(held, tally.len, tally.asked, b) {

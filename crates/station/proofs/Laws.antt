@@ -76,10 +76,6 @@ request_text-fits (Request.Schedule r) bytes h = schedule-fits r bytes
 
 -- ---- requests in range
 
--- the places of all requests but a power control, a date write and those of schedules
-abbrev without_range : List ℕ
-without_range = 0 ∷ 1 ∷ 2 ∷ 4 ∷ 6 ∷ 7 ∷ []
-
 module _ (r : Request) (bytes : List ℕ) where
   pub mode_range : (mode : ℕ) → r ≡ Request.PowerControl mode → (eqb mode 1 || eqb mode 4) ≡ is_in_range (request_of r bytes)
   mode_range mode e = rw e
@@ -94,17 +90,18 @@ module _ (r : Request) (bytes : List ℕ) where
   pub schedule-beside : (s : ScheduleRequest) → r ≡ Request.Schedule s → Beside (request_count r) bytes → Beside (schedule_request_count s) bytes
   schedule-beside s e beside = rw e at beside
 
-pub others-range : (r : Request) (bytes : List ℕ) → Beside (request_count r) bytes → OneOf without_range (tag_of the_type r)
+pub others-range : (r : Request) (bytes : List ℕ) → Beside (request_count r) bytes
+    → ((x : ℕ) → r ≡ Request.PowerControl x → ⊥) → ((x : Date) → r ≡ Request.DateWrite x → ⊥) → ((x : ScheduleRequest) → r ≡ Request.Schedule x → ⊥)
     → true ≡ is_in_range (request_of r bytes)
-others-range (Request.Get page code) bytes h k = refl
-others-range (Request.Set page code value) bytes h k = refl
-others-range Request.PowerRead bytes h k = refl
-others-range (Request.PowerControl mode) bytes h k = absurd (miss without_range 3 tt k)
-others-range Request.DateRead bytes h k = refl
-others-range (Request.DateWrite d) bytes h k = absurd (miss without_range 5 tt k)
-others-range (Request.ItemRead i) bytes h k = refl
-others-range (Request.TagWrite n) bytes h k = sym (le-leb (length (take n bytes)) 16 (taken_few n bytes h.few))
-others-range (Request.Schedule s) bytes h k = absurd (miss without_range 8 tt k)
+others-range (Request.Get page code) bytes h p d s = refl
+others-range (Request.Set page code value) bytes h p d s = refl
+others-range Request.PowerRead bytes h p d s = refl
+others-range (Request.PowerControl mode) bytes h p d s = absurd (p mode refl)
+others-range Request.DateRead bytes h p d s = refl
+others-range (Request.DateWrite date) bytes h p d s = absurd (d date refl)
+others-range (Request.ItemRead i) bytes h p d s = refl
+others-range (Request.TagWrite n) bytes h p d s = sym (le-leb (length (take n bytes)) 16 (taken_few n bytes h.few))
+others-range (Request.Schedule asked) bytes h p d s = absurd (s asked refl)
 
 -- ---- each way through the encoder
 

@@ -23,7 +23,7 @@ use Rattle.board.specs.declared.board.Answer.{Answer}
 use Rattle.board.specs.declared.board.Done.{Done}
 use Rattle.transcript.specs.Transcript.{line_of, transcribed_from, fed, Transcribed, Told}
 use Rattle.transcript.specs.Inner.{Lined, erased_by, erased_from}
-use Rattle.transcript.proofs.LineLaws.{IsNot, not_begun}
+use Rattle.transcript.proofs.LineLaws.{not_begun}
 
 -- the lines stand within the buffer
 pub lines_fit : {t : Transcribed} {s : BoardState} {n : ℕ} {m lent o o₁ : List ℕ} → Told t s n m lent o o₁ → n ≤ length o₁
@@ -65,7 +65,7 @@ module _ (at b : ℕ) (s : BoardState) (m lent o : List ℕ) where
 
 module _ (at : ℕ) (d : Done) (m lent o : List ℕ) (n : ℕ) (o₁ : List ℕ)
     (line : Lined at (answer_of d.answer) lent n o o₁) where
-  pub told-once : IsNot 2 d.answer → Told (transcribed_from at (gave d m lent)) (state_of d.board) n m lent o o₁
+  pub told-once : (d.answer ≡ Answer.Begun → ⊥) → Told (transcribed_from at (gave d m lent)) (state_of d.board) n m lent o o₁
   unfolding transcribed_from
   told-once k = rw (not_begun d.answer k) (record { state = refl; count = line.0; stored = refl; buffer = refl; written = line.1 })
 

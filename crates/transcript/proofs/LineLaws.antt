@@ -1,6 +1,4 @@
 -- What the tests on an answer say of it, how long a line and its parts are, and that parts written one behind the other are the line.
-use types.Run.{OneOf, miss}
-use denote.Enum.Declared.{tag_of}
 use Prim.Native.Nat.{ℕ, ◌+◌, ◌≤◌}
 use mathlib.Core.Bool.{true, false}
 use mathlib.Core.List.{List, [], ◌∷◌, ◌++◌, append_assoc}
@@ -19,8 +17,7 @@ use Rattle.wire.proofs.PacketLaws.{over-paste, over-set}
 use Rattle.calls.specs.Board as calls
 use Rattle.board.specs.View.{answer_of}
 use Rattle.board.specs.declared.board.Answer.{Answer}
-use Rattle.board.proofs.Answers.{all_but}
-use Rattle.board.specs.contracts.board.Answer.{the_type}
+use Rattle.board.proofs.Answers.{IsNoRefusal, IsNoReply}
 use Rattle.transcript.specs.Transcript.{decimal, word_of, data_of, is_told, is_begun, line_of}
 use Rattle.transcript.specs.Inner.{Put, PutFew}
 use Rattle.transcript.proofs.PutLaws.{put-none, put_first}
@@ -28,35 +25,32 @@ use Rattle.transcript.proofs.DecimalLaws.{digits-few}
 
 -- ---- the tests on an answer
 
-abbrev pub IsNot : ℕ → Answer → Type 0
-IsNot n a = OneOf (all_but n) (tag_of the_type a)
-
-is_told_law : (a : Answer) → IsNot 0 a → IsNot 3 a → is_told (answer_of a) ≡ true
-is_told_law Answer.Waiting k l = absurd (miss (all_but 0) 0 tt k)
+is_told_law : (a : Answer) → (a ≡ Answer.Waiting → ⊥) → (a ≡ Answer.More → ⊥) → is_told (answer_of a) ≡ true
+is_told_law Answer.Waiting k l = absurd (k refl)
 is_told_law Answer.Silent k l = refl
 is_told_law Answer.Begun k l = refl
-is_told_law Answer.More k l = absurd (miss (all_but 3) 3 tt l)
+is_told_law Answer.More k l = absurd (l refl)
 is_told_law Answer.Ended k l = refl
 is_told_law (Answer.Refused r) k l = refl
 is_told_law (Answer.Reply n) k l = refl
 
-pub not_begun : (a : Answer) → IsNot 2 a → is_begun (answer_of a) ≡ false
+pub not_begun : (a : Answer) → (a ≡ Answer.Begun → ⊥) → is_begun (answer_of a) ≡ false
 not_begun Answer.Waiting k = refl
 not_begun Answer.Silent k = refl
-not_begun Answer.Begun k = absurd (miss (all_but 2) 2 tt k)
+not_begun Answer.Begun k = absurd (k refl)
 not_begun Answer.More k = refl
 not_begun Answer.Ended k = refl
 not_begun (Answer.Refused r) k = refl
 not_begun (Answer.Reply n) k = refl
 
-no_data : (a : Answer) (lent : List ℕ) → IsNot 5 a → IsNot 6 a → data_of (answer_of a) lent ≡ []
+no_data : (a : Answer) (lent : List ℕ) → IsNoRefusal a → IsNoReply a → data_of (answer_of a) lent ≡ []
 no_data Answer.Waiting lent k l = refl
 no_data Answer.Silent lent k l = refl
 no_data Answer.Begun lent k l = refl
 no_data Answer.More lent k l = refl
 no_data Answer.Ended lent k l = refl
-no_data (Answer.Refused r) lent k l = absurd (miss (all_but 5) 5 tt k)
-no_data (Answer.Reply n) lent k l = absurd (miss (all_but 6) 6 tt l)
+no_data (Answer.Refused r) lent k l = absurd (k r refl)
+no_data (Answer.Reply n) lent k l = absurd (l n refl)
 
 -- ---- how long a line is
 
@@ -95,7 +89,7 @@ line_most at a lent n e h = rw e (line_few at a lent h)
 -- an answer that is told: n₁, n₂ and n₃ are the places behind its number, word and data, each within its most bytes
 module _ (at : ℕ) (a : Answer) (lent o : List ℕ) (n₁ : ℕ) (o₁ : List ℕ) (n₂ : ℕ) (o₂ : List ℕ) (n₃ : ℕ) (o₃ : List ℕ)
     (p₁ : PutFew 20 o 0 (decimal at) n₁ o₁) (p₂ : PutFew 8 o₁ n₁ (word_of (answer_of a)) n₂ o₂)
-    (p₃ : PutFew 129 o₂ n₂ (data_of (answer_of a) lent) n₃ o₃) (k : IsNot 0 a) (l : IsNot 3 a) where
+    (p₃ : PutFew 129 o₂ n₂ (data_of (answer_of a) lent) n₃ o₃) (k : (a ≡ Answer.Waiting → ⊥)) (l : (a ≡ Answer.More → ⊥)) where
   abbrev front : List ℕ
   front = decimal at ++ word_of (answer_of a) ++ data_of (answer_of a) lent
 
@@ -152,7 +146,7 @@ module _ (a : Answer) (o : List ℕ) (at : ℕ) where
   pub no_word_put : (b : Answer) → a ≡ b → word_of (answer_of b) ≡ [] → Put o at (word_of (answer_of a)) at o
   no_word_put b e w = put-none o at (word_of (answer_of a)) (rw (e, w))
 
-  pub no_data_put : (lent : List ℕ) → IsNot 5 a → IsNot 6 a → Put o at (data_of (answer_of a) lent) at o
+  pub no_data_put : (lent : List ℕ) → IsNoRefusal a → IsNoReply a → Put o at (data_of (answer_of a) lent) at o
   no_data_put lent k l = put-none o at _ (no_data a lent k l)
 
 -- ---- a number or bytes in hexadecimal behind a space

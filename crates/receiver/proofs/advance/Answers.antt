@@ -99,7 +99,7 @@ module _ (n : ℕ) (a : List ℕ) (b : ℕ) (all : length a ≡ 73) (e : is_prop
     written = rw (← comes) (byte-there a n b (grown (take (n + 1) (set a n b))).answer (grown-changes (take (n + 1) (set a n b))))
 
 pub returns-then-len-b : goal.returns-then-len-b
-returns-then-len-b c = (search stray_few, (search stray_refused, (tt, (search stray_leaves, search stray_unwritten))))
+returns-then-len-b c = record { few = search stray_few; answer = search stray_refused; whole = tt; held = search stray_leaves; array = search stray_unwritten }
 
 pub bounds-bytes-len : goal.bounds-bytes-len
 bounds-bytes-len c = search room
@@ -111,4 +111,4 @@ pub reached-requires : goal.reached-requires
 reached-requires c = (search room-for_all, search beginning)
 
 pub returns : goal.returns
-returns c = (search short, (search answered, (search rules, (search left, search written))))
+returns c = record { few = search short; answer = search answered; whole = search rules; held = search left; array = search written }

@@ -78,16 +78,16 @@ pub judge_header-requires : goal.judge_header-requires
 judge_header-requires c = search (rules, length-take-le)
 
 pub returns-then-n-eq-HEADER : goal.returns-then-n-eq-HEADER
-returns-then-n-eq-HEADER c = (search at-header, search header-counted)
+returns-then-n-eq-HEADER c = record { answer = search at-header; whole = search header-counted }
 
 pub size-requires : goal.size-requires
 size-requires c = search (rules, length-take-le)
 
 pub returns-then-count-size : goal.returns-then-count-size
-returns-then-count-size c = (search in_packet, tt)
+returns-then-count-size c = record { answer = search in_packet; whole = tt }
 
 pub judge_packet-requires : goal.judge_packet-requires
 judge_packet-requires c = search whole
 
 pub returns : goal.returns
-returns c = (search at-end, search packet-counted)
+returns c = record { answer = search at-end; whole = search packet-counted }

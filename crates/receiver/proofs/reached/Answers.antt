@@ -39,7 +39,7 @@ module _ (n : ℕ) (a : List ℕ) (fits : n ≤ length a) (asked : ℕ) (h : Gro
     }
 
 pub returns-then-n-asked : goal.returns-then-n-asked
-returns-then-n-asked c = (search waits, tt)
+returns-then-n-asked c = record { answer = search waits; whole = tt }
 
 pub judge-requires : goal.judge-requires
 judge-requires c = (search header-there, search rules, search all_there)

@@ -55,4 +55,4 @@ module _ (s : Receiver) (b : ℕ) (a : Reception) (exit : List ℕ) (answers : r
           let z : ◌≡◌ {A = ℕ} 0 1 = cc in absurd (omega arith))
 
 pub returns : goal.returns
-returns c = (search received, (search rules, search (rules, left)))
+returns c = record { receipt = search received; whole = search rules; receiver = search (rules, left) }

@@ -50,10 +50,10 @@ module _ (s : Receiver) (b k : ℕ) (told : k ≡ asked (held_of s)) where
     left r e = e ∙ ap (λ (x : Receipt). receiver_after s b x.answer) accepted
 
 pub returns-then-asked-eq0 : goal.returns-then-asked-eq0
-returns-then-asked-eq0 c = (search unsound, (tt, search unsound_left))
+returns-then-asked-eq0 c = record { receipt = search unsound; whole = tt; receiver = search unsound_left }
 
 pub accept-requires : goal.accept-requires
-accept-requires c = (search proper, search asks)
+accept-requires c = record { proper = search proper; asked = search asks }
 
 pub returns : goal.returns
-returns c = (search answered, (search rules, search left))
+returns c = record { receipt = search answered; whole = search rules; receiver = search left }

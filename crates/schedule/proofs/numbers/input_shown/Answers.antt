@@ -1,0 +1,15 @@
+-- Each test on the way is a test of the definition.
+use Rattle.wire.proofs.Tests.{tests}
+use Rattle.schedule.proofs.numbers.input_shown.Goals as goal
+
+pub returns-in-0 : goal.returns-in-0
+returns-in-0 c = rw c.in-0.is
+
+pub returns-in-1 : goal.returns-in-1
+returns-in-1 c = rw c.in-1.is
+
+pub returns-in-2 : goal.returns-in-2
+returns-in-2 c = rw c.in-2.is
+
+pub returns-in_default : goal.returns-in_default
+returns-in_default c = search tests

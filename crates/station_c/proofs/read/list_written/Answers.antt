@@ -1,0 +1,6 @@
+-- The numbers are filled up with zeros.
+use borrow.Author.Rules.{rules}
+use Rattle.station_c.proofs.read.list_written.Goals as goal
+
+pub returns : goal.returns
+returns c = rw c.number-number.ensures

@@ -1,0 +1,5 @@
+-- The measure is how many digits may be written.
+use Rattle.transcript.proofs.decimal.+put_digits.Given as goal
+
+abbrev pub decreases-put_digits : goal.decreases-put_digits
+decreases-put_digits l = l.most
