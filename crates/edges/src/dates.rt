@@ -1,89 +1,89 @@
 // Edges of the calendar: days that their months have and lack, weekdays, and a stored day that its month lacks.
-use crate::{show, show_lines, show_started};
+use crate::{say, say_number, show, show_lines, show_started};
 use wire::{digits, packet};
 
 // All of them.
-pub fn all() {
-    februaries();
-    months();
-    weekdays();
-    stored();
+pub fn all(rt: &impl Print) {
+    februaries(rt);
+    months(rt);
+    weekdays(rt);
+    stored(rt);
 }
 
 // The end of February in years that divide by 4 and in one that does not.
-fn februaries() {
-    write(0, 2, 29, 2);
-    write(0, 2, 30, 3);
-    write(1, 2, 28, 3);
-    write(1, 2, 29, 4);
-    write(96, 2, 29, 3);
-    write(96, 2, 30, 4);
+fn februaries(rt: &impl Print) {
+    write(rt, 0, 2, 29, 2);
+    write(rt, 0, 2, 30, 3);
+    write(rt, 1, 2, 28, 3);
+    write(rt, 1, 2, 29, 4);
+    write(rt, 96, 2, 29, 3);
+    write(rt, 96, 2, 30, 4);
 }
 
 // The 30th and the 31st of each month of 2001, with the weekdays that follow on that of the day before.
-fn months() {
-    write(1, 1, 30, 2);
-    write(1, 1, 31, 3);
-    write(1, 2, 30, 5);
-    write(1, 2, 31, 6);
-    write(1, 3, 30, 5);
-    write(1, 3, 31, 6);
-    write(1, 4, 30, 1);
-    write(1, 4, 31, 2);
-    write(1, 5, 30, 3);
-    write(1, 5, 31, 4);
-    write(1, 6, 30, 6);
-    write(1, 6, 31, 0);
-    write(1, 7, 30, 1);
-    write(1, 7, 31, 2);
-    write(1, 8, 30, 4);
-    write(1, 8, 31, 5);
-    write(1, 9, 30, 0);
-    write(1, 9, 31, 1);
-    write(1, 10, 30, 2);
-    write(1, 10, 31, 3);
-    write(1, 11, 30, 5);
-    write(1, 11, 31, 6);
-    write(1, 12, 30, 0);
-    write(1, 12, 31, 1);
+fn months(rt: &impl Print) {
+    write(rt, 1, 1, 30, 2);
+    write(rt, 1, 1, 31, 3);
+    write(rt, 1, 2, 30, 5);
+    write(rt, 1, 2, 31, 6);
+    write(rt, 1, 3, 30, 5);
+    write(rt, 1, 3, 31, 6);
+    write(rt, 1, 4, 30, 1);
+    write(rt, 1, 4, 31, 2);
+    write(rt, 1, 5, 30, 3);
+    write(rt, 1, 5, 31, 4);
+    write(rt, 1, 6, 30, 6);
+    write(rt, 1, 6, 31, 0);
+    write(rt, 1, 7, 30, 1);
+    write(rt, 1, 7, 31, 2);
+    write(rt, 1, 8, 30, 4);
+    write(rt, 1, 8, 31, 5);
+    write(rt, 1, 9, 30, 0);
+    write(rt, 1, 9, 31, 1);
+    write(rt, 1, 10, 30, 2);
+    write(rt, 1, 10, 31, 3);
+    write(rt, 1, 11, 30, 5);
+    write(rt, 1, 11, 31, 6);
+    write(rt, 1, 12, 30, 0);
+    write(rt, 1, 12, 31, 1);
 }
 
 // The first day and the last, with their weekdays and with others; the days before and after them.
-fn weekdays() {
-    write(0, 1, 1, 6);
-    write(0, 1, 1, 5);
-    write(0, 1, 1, 0);
-    write(0, 1, 1, 7);
-    write(0, 1, 0, 5);
-    write(99, 12, 31, 4);
-    write(99, 12, 31, 5);
-    write(99, 12, 32, 5);
-    write(99, 13, 1, 5);
-    write(100, 1, 1, 5);
+fn weekdays(rt: &impl Print) {
+    write(rt, 0, 1, 1, 6);
+    write(rt, 0, 1, 1, 5);
+    write(rt, 0, 1, 1, 0);
+    write(rt, 0, 1, 1, 7);
+    write(rt, 0, 1, 0, 5);
+    write(rt, 99, 12, 31, 4);
+    write(rt, 99, 12, 31, 5);
+    write(rt, 99, 12, 32, 5);
+    write(rt, 99, 13, 1, 5);
+    write(rt, 100, 1, 1, 5);
 }
 
 // Writes a date, and what an unused board answers to its date write at 00:00.
-fn write(year: u8, month: u8, day: u8, weekday: u8) {
-    io::write_all(1, b"day ");
-    io::print_decimal(1, 2000 + year as u64);
-    io::write_all(1, b"-");
-    io::print_decimal(1, month as u64);
-    io::write_all(1, b"-");
-    io::print_decimal(1, day as u64);
-    io::write_all(1, b", weekday ");
-    io::print_decimal(1, weekday as u64);
+fn write(rt: &impl Print, year: u8, month: u8, day: u8, weekday: u8) {
+    say(rt, b"day ");
+    say_number(rt, 2000 + year as u64);
+    say(rt, b"-");
+    say_number(rt, month as u64);
+    say(rt, b"-");
+    say_number(rt, day as u64);
+    say(rt, b", weekday ");
+    say_number(rt, weekday as u64);
     let date = [year, month, day, weekday, 0, 0, 0];
     let mut text = [0u8; 18];
     digits::put_bytes(&mut text, 0, b"C212");
     digits::put_hex(&mut text, 4, &date);
     let mut bytes = [0u8; 29];
     packet::put_packet(&mut bytes, 0x41, 0x30, 0x41, &text);
-    show(b"\n", 1, &bytes);
+    show(rt, b"\n", 1, &bytes);
 }
 
 // A start on a store with Thursday 31 February 2000, 12:30, as an earlier board took it: the date is read, a Set is accepted, the same date is refused,
 // and the date is read again.
-fn stored() {
+fn stored(rt: &impl Print) {
     let mut store = layouts::unused();
     let mut reply = [0u8; 64];
     let mut out = [0u8; 512];
@@ -91,12 +91,13 @@ fn stored() {
     store[8] = 0x7E;
     store[9] = 0x31;
     store[10] = 0xE0;
-    io::write_all(1, b"stored day 2000-2-31\n");
+    say(rt, b"stored day 2000-2-31\n");
     let started = board::board::start(&mut store, 1, b"", b"");
     let answer = started.answer;
-    show_started(answer);
+    show_started(rt, answer);
     let board = started.board;
     show_lines(
+        rt,
         board,
         &mut store,
         b"\x010A0A06\x02C211\x03v\x0D\x010A0E0A\x0200100064\x03w\x0D\x010A0A14\x02C21200021F040C1E00\x03\x00\x0D\x010A0A06\x02C211\x03v\x0D",

@@ -9,37 +9,43 @@ use board::board::Board;
 mod list;
 mod tell;
 
-fn main() {
+fn main(rt: HostRuntime) {
     let mut events = [0u16; 1200];
     let middle = list::erase_with_cuts(&mut events);
     let end = list::after_erase(&mut events, middle);
     if end == 1200 {
-        io::write_all(1, b"the list does not fit its array\n");
+        tell::say(&rt, b"the list does not fit its array\n");
         return;
     }
-    play_and_compare(&events[..end], middle);
+    play_and_compare(&rt, &events[..end], middle);
 }
 
 // The whole list after an accepted erase, then its second part, from `middle` on, alone. An event has two numbers in the list and 130 in the log.
-fn play_and_compare(events: &[u16], middle: usize)
+fn play_and_compare(rt: &impl Print, events: &[u16], middle: usize)
     requires { (middle ≤ length events.now) × (length events.now ≤ 1200) }
 {
     let mut lent = filled_buffers();
     let mut log = empty_log();
     let mut store = layouts::unused();
-    play_whole(&mut store, events, &mut lent, &mut log);
-    let from = tell::parts(events, middle, &lent, &log);
+    play_whole(rt, &mut store, events, &mut lent, &mut log);
+    let from = tell::parts(rt, events, middle, &lent, &log);
     // All that is lent is used, so a buffer may have been cut: that was told.
     if from == 38400 {
         return;
     }
     let at = 65 * middle + 130;
-    compare(&events[middle..], from, at, &lent[from..], &log[at..]);
+    compare(rt, &events[middle..], from, at, &lent[from..], &log[at..]);
 }
 
 // A past, then in one call the last byte of its erase request and the whole list. The store before that call is set down before the first entry
 // of the log, so the mark that the byte stores shows in the first event.
-fn play_whole(store: &mut [u8; 128], events: &[u16], lent: &mut [u8], log: &mut [usize])
+fn play_whole(
+    rt: &impl Print,
+    store: &mut [u8; 128],
+    events: &[u16],
+    lent: &mut [u8],
+    log: &mut [usize],
+)
     requires { 130 ≤ length log.old }
 {
     fill_spare(store);
@@ -59,7 +65,7 @@ fn play_whole(store: &mut [u8; 128], events: &[u16], lent: &mut [u8], log: &mut 
         lent,
         &mut log[130..],
     );
-    tell::acceptance(begun, &reply);
+    tell::acceptance(rt, begun, &reply);
 }
 
 // Something in each spare byte, as an older use may have left it: the number of its place. So each step of an erase shows there.
@@ -125,12 +131,13 @@ fn wide(b: u8) -> usize {
 }
 
 // Compares with an unused board the events whose buffers and entries begin at these places. Its own begin at the same places.
-fn compare(events: &[u16], from: usize, at: usize, lent: &[u8], log: &[usize])
+fn compare(rt: &impl Print, events: &[u16], from: usize, at: usize, lent: &[u8], log: &[usize])
     requires { (from ≤ 38400) × (at ≤ 78130) }
 {
     let mut other_lent = filled_buffers();
     let mut other_log = empty_log();
     play_alone(
+        rt,
         events,
         lent,
         log,
@@ -141,6 +148,7 @@ fn compare(events: &[u16], from: usize, at: usize, lent: &[u8], log: &[usize])
 
 // Plays events on an unused board, in one call, and compares. A refused start would give a board that refuses them all, and so show.
 fn play_alone(
+    rt: &impl Print,
     events: &[u16],
     lent: &[u8],
     log: &[usize],
@@ -153,7 +161,7 @@ fn play_alone(
     play::play(
         board, 1, b"SN-1", b"M", &mut store, events, other_lent, other_log,
     );
-    tell::comparison(log, other_log, lent, other_lent);
+    tell::comparison(rt, log, other_log, lent, other_lent);
 }
 
 // Room for 600 events and the store before them: 130 numbers each. The `ensures` gives only the length, which lending it needs.

@@ -4,30 +4,30 @@ ghost use Rattle.std.specs.Prelude.{◌≡◌, ◌+◌, ◌*◌, ◌≤◌, true
 use wire::digits;
 
 // Whether an erase begins, and how many bytes of the byte's own buffer were written.
-pub fn acceptance(begun: bool, buffer: &[u8]) {
+pub fn acceptance(rt: &impl Print, begun: bool, buffer: &[u8]) {
     if begun {
-        io::write_all(
-            1,
+        say(
+            rt,
             b"a board with a past begins an erase; the mark that it stores shows in event 1\n",
         );
     } else {
-        io::write_all(1, b"no erase begins\n");
+        say(rt, b"no erase begins\n");
     }
-    show_count(count_from(0, buffer, 0));
+    show_count(rt, count_from(0, buffer, 0));
 }
 
 // Both parts of a list, the second from `middle` on, and where the buffers of the first end in what is lent: at its size where the buffers
 // reach it, since then they may be cut.
-pub fn parts(events: &[u16], middle: usize, lent: &[u8], log: &[usize]) -> usize
+pub fn parts(rt: &impl Print, events: &[u16], middle: usize, lent: &[u8], log: &[usize]) -> usize
     requires { (middle ≤ length events.now) × (65 * length events.now + 130 ≤ length log.now) }
     ensures { result ≤ length lent.now }
 {
-    io::write_all(1, b"after an accepted erase, with two power cuts\n");
-    let from = show_part(events, 0, middle, lent, 0, log);
-    io::write_all(1, b"and from then on\n");
-    let end = show_part(events, middle, events.len(), lent, from, log);
+    say(rt, b"after an accepted erase, with two power cuts\n");
+    let from = show_part(rt, events, 0, middle, lent, 0, log);
+    say(rt, b"and from then on\n");
+    let end = show_part(rt, events, middle, events.len(), lent, from, log);
     if end == lent.len() {
-        io::write_all(1, b"the list does not fit the lent bytes\n");
+        say(rt, b"the list does not fit the lent bytes\n");
         return end;
     }
     from
@@ -36,6 +36,7 @@ pub fn parts(events: &[u16], middle: usize, lent: &[u8], log: &[usize]) -> usize
 // A line for each event of a part, waiting left out; then how many lent bytes were written though they are no reply's. An entry of the log has
 // the answer in two numbers and the store after it; the first entry has the store before the list. Where the part's buffers end.
 fn show_part(
+    rt: &impl Print,
     events: &[u16],
     first: usize,
     last: usize,
@@ -52,11 +53,11 @@ fn show_part(
     while i < last / 2 {
         let end = end_of(from, events[2 * i], events[2 * i + 1], lent.len());
         i += 1;
-        show_event(i, log, 130 * i, &lent[from..end]);
+        show_event(rt, i, log, 130 * i, &lent[from..end]);
         n = count_beside(n, log, 130 * i, &lent[from..end]);
         from = end;
     }
-    show_count(n);
+    show_count(rt, n);
     from
 }
 
@@ -75,79 +76,79 @@ fn end_of(from: usize, event: u16, lent: u16, size: usize) -> usize
 }
 
 // How many lent bytes were written though they are no reply's.
-fn show_count(n: u64) {
-    io::write_all(1, b"bytes written beside replies: ");
-    io::print_decimal(1, n);
-    io::write_all(1, b"\n");
+fn show_count(rt: &impl Print, n: u64) {
+    say(rt, b"bytes written beside replies: ");
+    say_number(rt, n);
+    say(rt, b"\n");
 }
 
 // The event whose entry stands at a place, and its lent buffer.
-fn show_event(number: usize, log: &[usize], at: usize, buffer: &[u8])
+fn show_event(rt: &impl Print, number: usize, log: &[usize], at: usize, buffer: &[u8])
     requires { (130 ≤ at) × (at + 130 ≤ length log.now) }
 {
     if log[at] == 0 {
         return;
     }
-    io::print_decimal(1, number as u64);
-    show_answer(log[at], log[at + 1], buffer);
-    show_changes(log, at);
-    io::write_all(1, b"\n");
+    say_number(rt, number as u64);
+    show_answer(rt, log[at], log[at + 1], buffer);
+    show_changes(rt, log, at);
+    say(rt, b"\n");
 }
 
 // An answer by the number of its kind, with its refusal's number or its reply.
-fn show_answer(kind: usize, number: usize, buffer: &[u8]) {
+fn show_answer(rt: &impl Print, kind: usize, number: usize, buffer: &[u8]) {
     match kind {
         5 => {
-            io::write_all(1, b" refused ");
-            io::print_decimal(1, number as u64);
+            say(rt, b" refused ");
+            say_number(rt, number as u64);
         }
         6 => {
-            io::write_all(1, b" reply ");
-            show_reply(buffer, number);
+            say(rt, b" reply ");
+            show_reply(rt, buffer, number);
         }
         _ => {
-            show_word(kind);
+            show_word(rt, kind);
         }
     }
 }
 
 // The word of an answer that is no refusal and no reply. One that the list does not get shows the number of its kind.
-fn show_word(kind: usize) {
+fn show_word(rt: &impl Print, kind: usize) {
     match kind {
         2 => {
-            io::write_all(1, b" begun");
+            say(rt, b" begun");
         }
         3 => {
-            io::write_all(1, b" more");
+            say(rt, b" more");
         }
         4 => {
-            io::write_all(1, b" ended");
+            say(rt, b" ended");
         }
         7 => {
-            io::write_all(1, b" started");
+            say(rt, b" started");
         }
         _ => {
-            io::write_all(1, b" answer ");
-            io::print_decimal(1, kind as u64);
+            say(rt, b" answer ");
+            say_number(rt, kind as u64);
         }
     }
 }
 
 // The first bytes of a lent buffer.
-fn show_reply(buffer: &[u8], count: usize) {
+fn show_reply(rt: &impl Print, buffer: &[u8], count: usize) {
     if buffer.len() < count {
-        io::write_all(1, b"past its buffer");
+        say(rt, b"past its buffer");
         return;
     }
     let mut i: usize = 0;
     while i < count {
-        show_digits(buffer[i]);
+        show_digits(rt, buffer[i]);
         i += 1;
     }
 }
 
 // Each stored byte that is another than in the entry before, with its place. The entry of a refused start has no store.
-fn show_changes(log: &[usize], at: usize)
+fn show_changes(rt: &impl Print, log: &[usize], at: usize)
     requires { (130 ≤ at) × (at + 130 ≤ length log.now) }
 {
     if log[at] == 8 {
@@ -157,29 +158,29 @@ fn show_changes(log: &[usize], at: usize)
     while place < 128 {
         let new = log[at + 2 + place];
         if new != log[at - 128 + place] {
-            show_change(place, new);
+            show_change(rt, place, new);
         }
         place += 1;
     }
 }
 
 // A stored byte with its place. A log has numbers, and one that is no byte is told.
-fn show_change(place: usize, value: usize) {
-    io::write_all(1, b" ");
-    io::print_decimal(1, place as u64);
-    io::write_all(1, b"=");
+fn show_change(rt: &impl Print, place: usize, value: usize) {
+    say(rt, b" ");
+    say_number(rt, place as u64);
+    say(rt, b"=");
     if 255 < value {
-        io::write_all(1, b"no byte");
+        say(rt, b"no byte");
         return;
     }
-    show_digits(value as u8);
+    show_digits(rt, value as u8);
 }
 
 // A byte as two digits.
-fn show_digits(n: u8) {
+fn show_digits(rt: &impl Print, n: u8) {
     let mut text = [0u8; 2];
     digits::put_two(&mut text, 0, n);
-    io::write_all(1, &text);
+    say(rt, &text);
 }
 
 // A count with the bytes of an event's buffer that were written though they are no reply's.
@@ -206,20 +207,26 @@ fn count_from(before: u64, buffer: &[u8], from: usize) -> u64 {
 }
 
 // Whether two logs, and the lent bytes beside them, are the same in each number.
-pub fn comparison(log: &[usize], other_log: &[usize], lent: &[u8], other_lent: &[u8]) {
+pub fn comparison(
+    rt: &impl Print,
+    log: &[usize],
+    other_log: &[usize],
+    lent: &[u8],
+    other_lent: &[u8],
+) {
     if !same_numbers(log, other_log) {
-        io::write_all(1, b"an unused board shows another answer or store\n");
+        say(rt, b"an unused board shows another answer or store\n");
         return;
     }
-    if !check::same(lent, other_lent) {
-        io::write_all(
-            1,
+    if lent != other_lent {
+        say(
+            rt,
             b"an unused board leaves other bytes in the lent buffers\n",
         );
         return;
     }
-    io::write_all(
-        1,
+    say(
+        rt,
         b"the same on an unused board, in every number of the log and every lent byte\n",
     );
 }
@@ -239,4 +246,14 @@ fn same_numbers(a: &[usize], b: &[usize]) -> bool
         i += 1;
     }
     true
+}
+
+// Writes some bytes on standard output. A write that fails is not told: what comes out is compared whole.
+pub fn say(rt: &impl Print, bytes: &[u8]) {
+    let _ = rt.write_all(bytes);
+}
+
+// Writes a number in decimal, as `say` writes.
+fn say_number(rt: &impl Print, n: u64) {
+    let _ = rt.print(n);
 }

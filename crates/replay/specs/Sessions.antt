@@ -1,7 +1,6 @@
 -- The reads of the program replay (docs/RULES.md, RT4 and XB5): what comes after each of them. The bytes themselves and what is written
 -- are the system's, and nothing is said of them here.
-use Rattle.std.specs.Prelude.{Bool, true, false, cond, ◌&&◌, ◌≡◌, ℕ, suc, ◌+◌, min, ◌⊎◌, ltb, ℤ, pos, negsuc}
-use Rattle.io.specs.Counts.{clamp_len}
+use Rattle.std.specs.Prelude.{Bool, true, false, cond, ◌&&◌, ◌≡◌, ℕ, suc, ◌+◌, min, ◌⊎◌, ltb, Result}
 use Rattle.replay.specs.declared.Next.{Next}
 use Rattle.replay.specs.declared.Session.{Session}
 use Rattle.replay.specs.declared.Told.{Told}
@@ -10,12 +9,16 @@ use Rattle.replay.specs.declared.Told.{Told}
 abbrev pub largest : ℕ
 largest = 0xFFFFFFFFFFFFFFFF
 
--- after a read that gave a number of bytes, 0 at the end of the input or a number below 0 where it failed, and after its lines were
--- written or not
-abbrev pub next_after : ℤ → Bool → Next
+-- after a read that gave a number of bytes, 0 at the end of the input, or failed with an error, and after its lines were written or not
+abbrev pub next_after : {E : Type 0} → Result ℕ E → Bool → Next
 next_after got false = Next.WriteFailed
-next_after (pos n) true = cond (ltb 0 n) Next.Read Next.InputEnded
-next_after (negsuc n) true = Next.ReadFailed
+next_after (Result.Ok n) true = cond (ltb 0 n) Next.Read Next.InputEnded
+next_after (Result.Err e) true = Next.ReadFailed
+
+-- how many bytes a read gave into a buffer of such a size: none where it failed, and never more than the buffer has
+abbrev pub came : {E : Type 0} → Result ℕ E → ℕ → ℕ
+came (Result.Ok n) size = min n size
+came (Result.Err e) size = 0
 
 abbrev pub is_read : Next → Bool
 is_read Next.Read = true
@@ -33,10 +36,10 @@ counted_on at more = min (at + more) largest
 
 -- so many bytes came: where their lines could be written, each of them was counted
 abbrev pub AreCounted : Told → ℕ → ℕ → Type 0
-AreCounted t before came = t.written ≡ true → t.at ≡ counted_on before came
+AreCounted t before n = t.written ≡ true → t.at ≡ counted_on before n
 
--- A session after a read that gave such a number, into a buffer of such a size: the read is counted; and a write is reported as failed, or what comes next
--- is what the number says and every byte that came was counted.
-pub record IsAfterRead (before : Session) (got : ℤ) (size : ℕ) (after : Session) : Type 0 where
+-- A session after a read that gave this, into a buffer of such a size: the read is counted; and a write is reported as failed, or what comes next
+-- is what the read says and every byte that came was counted.
+pub record IsAfterRead {E : Type 0} (before : Session) (got : Result ℕ E) (size : ℕ) (after : Session) : Type 0 where
   pub read : after.reads ≡ suc before.reads
-  pub next : (after.next ≡ Next.WriteFailed) ⊎ ((after.next ≡ next_after got true) × (after.at ≡ counted_on before.at (clamp_len got size)))
+  pub next : (after.next ≡ Next.WriteFailed) ⊎ ((after.next ≡ next_after got true) × (after.at ≡ counted_on before.at (came got size)))

@@ -2,9 +2,11 @@
 #![tactic(auto)]
 
 ghost use Rattle.std.specs.Prelude.{false, ◌≡◌, suc, ◌≤◌, ◌<◌, length};
-ghost use Rattle.replay.specs.Sessions.{largest, next_after, goes_on, counted_on, AreCounted, IsAfterRead};
+ghost use Rattle.replay.specs.Sessions.{largest, came, next_after, goes_on, counted_on, AreCounted, IsAfterRead};
 
 use board::board::Board;
+use std::io;
+use std::io::Read;
 use transcript::feed;
 use transcript::feed::Given;
 
@@ -41,14 +43,15 @@ pub struct Room {
     pub written: bool,
 }
 
-fn main() {
-    if !io::write_all(1, b"at kind data\n") {
-        say_why(Next::WriteFailed);
+fn main(rt: HostRuntime) {
+    if rt.write_all(b"at kind data\n").is_err() {
+        say_why(&rt, Next::WriteFailed);
         return;
     }
+    let mut input = rt.stdin();
     let mut store = layouts::unused();
     let mut reply = [0u8; 64];
-    let mut out = io::large_buffer();
+    let mut out = large_buffer();
     let started = board::board::start(&mut store, 1, b"", b"");
     let board = started.board;
     let session = Session {
@@ -57,28 +60,42 @@ fn main() {
         reads: 0,
         next: Next::Read,
     };
-    let last = replay(session, &mut store, &mut reply, &mut out);
+    let last = replay(&rt, &mut input, session, &mut store, &mut reply, &mut out);
     let next = last.next;
-    say_why(next);
+    say_why(&rt, next);
 }
 
-// Says on standard error why a session ended. The end of the input is no failure, and nothing is said of it.
-fn say_why(next: Next) {
+// 65,536 zeros: what a read may fill, and where lines wait to be written. The `ensures` gives only the length, which lending it needs.
+fn large_buffer() -> [u8; 65536]
+    ensures { 65536 ≡ length result }
+{
+    [0; 65536]
+}
+
+// Says on standard error why a session ended. The end of the input is no failure, and nothing is said of it. A line that can't be written there is lost.
+fn say_why(rt: &impl Eprint, next: Next) {
     if let Next::ReadFailed = next {
-        io::write_all(2, b"replay: standard input can't be read\n");
+        let _ = rt.eprintln("replay: standard input can't be read");
     }
     if let Next::WriteFailed = next {
-        io::write_all(2, b"replay: standard output can't be written\n");
+        let _ = rt.eprintln("replay: standard output can't be written");
     }
 }
 
 // Reads until the session ends.
-fn replay(first: Session, store: &mut [u8], reply: &mut [u8], out: &mut [u8]) -> Session
+fn replay(
+    rt: &impl Print,
+    input: &mut impl Read,
+    first: Session,
+    store: &mut [u8],
+    reply: &mut [u8],
+    out: &mut [u8],
+) -> Session
     ensures { goes_on result ≡ false }
 {
     let mut session = first;
     while session.goes_on() {
-        session = read_some(session, store, reply, out);
+        session = read_some(rt, input, session, store, reply, out);
     }
     session
 }
@@ -97,19 +114,27 @@ impl Session {
 }
 
 // Reads once.
-fn read_some(session: Session, store: &mut [u8], reply: &mut [u8], out: &mut [u8]) -> Session
+fn read_some(
+    rt: &impl Print,
+    input: &mut impl Read,
+    session: Session,
+    store: &mut [u8],
+    reply: &mut [u8],
+    out: &mut [u8],
+) -> Session
     requires { session.reads < largest }
     ensures { result.reads ≡ suc session.reads }
 {
-    let mut buf = io::large_buffer();
-    let got = libc::read(0, &mut buf);
-    take_in(session, got, &buf, store, reply, out)
+    let mut buf = large_buffer();
+    let got = input.read(&mut buf);
+    take_in(rt, session, got, &buf, store, reply, out)
 }
 
 // Gives the board what a read gave: nothing at the end of the input, and where it failed.
 fn take_in(
+    rt: &impl Print,
     session: Session,
-    got: isize,
+    got: io::Result<usize>,
     buf: &[u8],
     store: &mut [u8],
     reply: &mut [u8],
@@ -119,9 +144,9 @@ fn take_in(
     ensures { IsAfterRead session got (length buf.now) result }
 {
     let reads = session.reads + 1;
-    let n = io::count(got, buf);
+    let n = count(got, buf);
     let given = session.board;
-    let told = give_all(given, session.at, store, &buf[..n], reply, out);
+    let told = give_all(rt, given, session.at, store, &buf[..n], reply, out);
     let board = told.board;
     let next = next_after(got, told.written);
     Session {
@@ -132,17 +157,28 @@ fn take_in(
     }
 }
 
-// What comes after a read that gave so many bytes, 0 at the end of the input or less than 0 where it failed.
-fn next_after(got: isize, written: bool) -> Next
+// How many bytes a read gave: none where it failed, and never more than its buffer has.
+fn count(got: io::Result<usize>, buf: &[u8]) -> usize
+    ensures within { result ≤ length buf.now }
+    ensures value { result ≡ came got (length buf.now) }
+{
+    let Ok(n) = got else {
+        return 0;
+    };
+    if buf.len() < n { buf.len() } else { n }
+}
+
+// What comes after a read that gave so many bytes, 0 at the end of the input, or failed.
+fn next_after(got: io::Result<usize>, written: bool) -> Next
     ensures { result ≡ next_after got written }
 {
     if !written {
         return Next::WriteFailed;
     }
-    if got < 0 {
+    let Ok(n) = got else {
         return Next::ReadFailed;
-    }
-    if 0 < got {
+    };
+    if 0 < n {
         return Next::Read;
     }
     Next::InputEnded
@@ -150,6 +186,7 @@ fn next_after(got: isize, written: bool) -> Next
 
 // Gives the board some bytes and writes their lines; where these can't be written, the bytes behind them are left.
 fn give_all(
+    rt: &impl Print,
     first: Board,
     before: u64,
     store: &mut [u8],
@@ -167,7 +204,7 @@ fn give_all(
         at = one_more(at);
         let given = give(out, used, board, store, at, bytes[i], reply);
         board = given.board;
-        let room = with_room(given.length, out);
+        let room = with_room(rt, given.length, out);
         if !room.written {
             return Told {
                 board,
@@ -178,7 +215,7 @@ fn give_all(
         used = room.used;
         i += 1;
     }
-    let written = io::write_all(1, &out[..used]);
+    let written = rt.write_all(&out[..used]).is_ok();
     Told { board, at, written }
 }
 
@@ -205,12 +242,12 @@ fn give(
 }
 
 // Writes out the lines when little room is left; how much of the buffer is used then.
-fn with_room(used: usize, out: &[u8]) -> Room
+fn with_room(rt: &impl Print, used: usize, out: &[u8]) -> Room
     requires { used ≤ length out.now }
     ensures { result.used ≤ length out.now }
 {
     if out.len() - used < 512 {
-        let written = io::write_all(1, &out[..used]);
+        let written = rt.write_all(&out[..used]).is_ok();
         return Room { used: 0, written };
     }
     Room {

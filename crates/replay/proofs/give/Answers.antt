@@ -1,0 +1,9 @@
+-- The new lines stand within the rest of the buffer.
+use Rattle.transcript.proofs.FeedLaws.{lines-counted, lines-within}
+use Rattle.replay.proofs.give.Goals as goal
+
+pub overflow_add-length : goal.overflow_add-length
+overflow_add-length c = search lines-counted
+
+pub returns : goal.returns
+returns c = search lines-within
