@@ -1,4 +1,4 @@
-# The programs bench and boardsim, in C over the proved archives of the crates station_c and board_c.
+# The programs bench and boardsim, in C over the proved archives of station_c and board_c. The crate station_exports makes the first, of station_c's functions.
 #
 #   make           proves what the archives need, writes them and builds the programs into target/host
 #   make run       plays an erase that loses its power halfway, without hardware
@@ -20,6 +20,7 @@ OUT = target/host
 # Each archive shows only the functions of its header; the crates that both are made of are hidden in them. So one program can link both.
 STATION = target/staticlib/libstation_c.a
 BOARD = target/staticlib/libboard_c.a
+REPLAY = crates/replay/out/replay
 
 # Each folder of host has its objects in a folder of its own, for a file in another may have the same name.
 OBJECTS = $(OUT)/objects
@@ -32,7 +33,9 @@ SIMULATION_PARTS = sim store_file
 SIMULATION_OBJECTS = $(SIMULATION_PARTS:%=$(OBJECTS)/simulation/%.o)
 BENCH_OBJECTS = $(BENCH_PARTS:%=$(OBJECTS)/bench/%.o) $(SIMULATION_OBJECTS) $(COMMON_OBJECTS)
 BOARDSIM_OBJECTS = $(BOARDSIM_PARTS:%=$(OBJECTS)/boardsim/%.o) $(SIMULATION_OBJECTS) $(COMMON_OBJECTS)
-CRATE_FILES := crates.txt $(shell find crates -name must-fail -prune -o -type f -print)
+# What rt reads of the crates, and not what it keeps in their folders out.
+CRATE_FILES := crates.txt $(shell find crates \( -name must-fail -o -path 'crates/*/out' \) -prune -o -type f -print)
+RT_IS_THERE = command -v $(RT) >/dev/null || { echo "rt, the Rattle toolchain, is not in the PATH: install it and try again" >&2; exit 1; }
 
 .PHONY: all run test install clean
 .DELETE_ON_ERROR:
@@ -53,13 +56,21 @@ $(OBJECTS)/%.o: host/%.c $(wildcard host/*.h host/*/*.h)
 	@mkdir -p $(@D)
 	$(CC) -std=c11 $(WARNINGS) -Ihost $(CFLAGS) -c -o $@ $<
 
-# rt proves one crate at a time, so the archives are made one after the other.
-target/staticlib/lib%.a: $(CRATE_FILES)
-	@command -v $(RT) >/dev/null || { echo "rt, the Rattle toolchain, is not in the PATH: install it and try again" >&2; exit 1; }
-	$(RT) staticlib $*
-	@touch $@
+# The crate that makes an archive has the archive's name, but for the station's: other crates use station_c, and rt makes no archive of such a crate.
+MADE_BY = $*
+$(STATION): MADE_BY = station_exports
 
-$(BOARD): | $(STATION)
+target/staticlib/lib%.a: $(CRATE_FILES)
+	@$(RT_IS_THERE)
+	cd crates/$(MADE_BY) && $(RT) lib
+	@mkdir -p $(@D)
+	cp crates/$(MADE_BY)/out/lib$(MADE_BY).a $@
+
+# The program replay stands where rt builds it. rt also runs what it builds; here on no bytes.
+$(REPLAY): $(CRATE_FILES)
+	@$(RT_IS_THERE)
+	cd crates/replay && $(RT) run </dev/null
+	@touch $@
 
 run: all
 	host/story $(OUT)
@@ -78,4 +89,4 @@ install: all
 	sed -e 's|@PREFIX@|$(PREFIX)|' -e 's|@VERSION@|$(VERSION)|' host/pactosilve.pc.in >$(INSTALLED)/lib/pkgconfig/pactosilve.pc
 
 clean:
-	rm -rf $(OUT) $(STATION) $(BOARD)
+	rm -rf $(OUT) target/staticlib $(REPLAY)
