@@ -672,7 +672,7 @@ static void try_idle_clients(void)
     for (ssize_t sent = 0; sent >= 0;) /* until nothing more can be sent, since no reply is taken */
         sent = write(line, request.bytes, request.size);
     REQUIRE(errno == EAGAIN, "can't send");
-    wait_ms(3000); /* the board first takes what is on its way */
+    wait_ms(10000); /* the board first takes what is on its way, over a megabyte */
     next = open_connection(&child);
     EXCHANGE(next, 'C', "0010", 'D', backlight_unused);
     close(next);
