@@ -2,13 +2,12 @@
 use mathlib.Core.Bool.{Bool, true, false, cond}
 use mathlib.Core.List.{[], ◌∷◌, map}
 use mathlib.Core.Path.{◌≡◌, refl, sym, ap, ◌∙◌}
-use Prim.Native.Nat.{ℕ, zero, suc, ◌+◌, ◌*◌, ◌%◌, ◌≤◌, ◌<◌}
+use Prim.Native.Nat.{ℕ, zero, suc, ◌+◌, ◌*◌, ◌≤◌, ◌<◌}
 use native.Mathlib.Omega.{arith, by_contra}
-use borrow.Author.Tests.{eq-eqb, ne_eqb}
 use Rattle.messages.specs.declared.message.Date.{Date}
 use Rattle.calendar.specs.Calendar.{is_leap, days_in, is_day, before_year, before_month, days_before, weekday_of, is_accepted}
 use Rattle.calendar.specs.DayByDay.{first_day, next_day, days_on, InDays, months, DayByDay}
-use Rattle.calendar.proofs.DayLaws.{year-days, before_year-as, before_month-within, day-facts}
+use Rattle.calendar.proofs.DayLaws.{year-days, before_year-as, before_month-within, day-facts, fourth_year, no_fourth_year}
 use Rattle.calendar.proofs.DateLaws.{accepted, is_accepted_lem}
 use Rattle.calendar.proofs.NextDay.{next_in_month, next_month, next_year, day_of, count_of, After, counted, again, after, first_is_day, first_as, next_accepted}
 
@@ -145,8 +144,8 @@ pub day-by_day : DayByDay
 unfolding weekday_of before_year before_month days_in next_day
 day-by_day =
     record {
-      leap_year = λ k. months-by (4 * k) true (eq-eqb (4 * k % 4) 0 (omega arith));
-      other_year = λ k r l h. months-by (4 * k + r) false (ne_eqb ((4 * k + r) % 4) 0 (λ e. omega arith));
+      leap_year = λ k. months-by (4 * k) true (fourth_year k);
+      other_year = λ k r l h. months-by (4 * k + r) false (no_fourth_year k r l h);
       saturday = refl;
       tuesday = refl;
       wednesday = refl;

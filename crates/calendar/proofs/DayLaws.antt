@@ -8,7 +8,7 @@ use Prim.Native.Nat.{ℕ, zero, suc, ◌+◌, ◌*◌, ◌/◌, ◌%◌, ◌≤�
 use native.Mathlib.Omega.{arith, by_contra}
 use lib.Dec.{leb, eqb}
 use lib.ListN.{get_or-eq_default}
-use borrow.Author.Tests.{eqb-true, eqb-false, leb-true, leb-false, ne_eqb, le-leb}
+use borrow.Author.Tests.{eq-eqb, eqb-true, eqb-false, leb-true, leb-false, ne_eqb, le-leb}
 use Rattle.wire.proofs.Tests.{cond-by, both}
 use Rattle.wire.proofs.Tables.{each}
 use Rattle.calendar.specs.Calendar.{is_leap, days_of_months, days_in, is_day, before_year, before_month, days_before, weekday_of}
@@ -143,3 +143,16 @@ pub days_few : (year month day : ℕ) → is_day year month day ≡ true → 6 +
 days_few year month day e =
     let f = day-facts year month day e in
     omega (arith, before_year-as year, before_month-most year month, month-most year month)
+
+-- ---- weekdays and leap years
+
+-- the weekday a day later
+pub weekday-after : {n k : ℕ} → k ≡ suc n → (6 + k) % 7 ≡ ((6 + n) % 7 + 1) % 7
+weekday-after {n} {k} e = rw e (omega arith)
+
+-- the test of a leap year, in the years that are multiples of 4 and in the three behind each
+pub fourth_year : (k : ℕ) → eqb (4 * k % 4) 0 ≡ true
+fourth_year k = eq-eqb (4 * k % 4) 0 (omega arith)
+
+pub no_fourth_year : (k r : ℕ) → 1 ≤ r → r ≤ 3 → eqb ((4 * k + r) % 4) 0 ≡ false
+no_fourth_year k r l h = ne_eqb ((4 * k + r) % 4) 0 (λ e. omega arith)

@@ -9,7 +9,7 @@ use Rattle.wire.proofs.Tests.{cond-by}
 use Rattle.messages.specs.declared.message.Date.{Date}
 use Rattle.calendar.specs.Calendar.{days_in, is_day, before_year, before_month, days_before, weekday_of, is_accepted}
 use Rattle.calendar.specs.DayByDay.{midnight, first_day, next_day}
-use Rattle.calendar.proofs.DayLaws.{month_least, year-days, before_year-as, DayFacts, day-facts, is_day_law}
+use Rattle.calendar.proofs.DayLaws.{month_least, year-days, before_year-as, DayFacts, day-facts, is_day_law, weekday-after}
 use Rattle.calendar.proofs.DateLaws.{accepted, is_accepted_lem}
 
 -- ---- the day after, counted
@@ -38,9 +38,6 @@ unfolding before_year
 count-year year = omega (arith, january (suc year), december year, year-days year)
 
 -- ---- weekdays
-
-weekday-after : {n k : ℕ} → k ≡ suc n → (6 + k) % 7 ≡ ((6 + n) % 7 + 1) % 7
-weekday-after {n} {k} e = rw e (omega arith)
 
 pub next_in_month : (year month day : ℕ) → 1 ≤ day → weekday_of year month (suc day) ≡ (weekday_of year month day + 1) % 7
 unfolding weekday_of

@@ -5,5 +5,6 @@ pub mod Vectors
 pub mod CaseVectors
 pub mod SendLaws
 pub mod ParseLaws
+pub mod NameLaws
 pub mod WrittenBack
 pub mod RepliesWrittenBack

@@ -1,10 +1,10 @@
 -- A text in which a request is found spells it: each field that was read, written again, gives back the digits that it was read from, but for their case.
 use Prim.Native.Nat.{ℕ, suc, ◌+◌, ◌-◌, ◌*◌, ◌/◌, ◌%◌, ◌≤◌, ◌<◌}
-use mathlib.Core.Bool.{true, cond, ◌&&◌, false≢true}
+use mathlib.Core.Bool.{true, cond, ◌&&◌}
 use mathlib.Core.List.{List, [], ◌∷◌, ◌++◌}
 use mathlib.Core.Logic.{inl, inr}
 use mathlib.Core.Option.{Option, none, some, map, none-ne-some}
-use mathlib.Core.Path.{◌≡◌, refl, sym, ap, ap₂, ◌∙◌, subst}
+use mathlib.Core.Path.{◌≡◌, refl, sym, ap, ◌∙◌, subst}
 use native.Mathlib.Omega.{arith}
 use borrow.Author.Tests.{lt-ltb, le-ltb, eqb-true}
 use lib.Arith.{digits_div, digits_mod}
@@ -26,6 +26,7 @@ use Rattle.messages.specs.Spelling.{Spells, name_length, SpellsRequest}
 use Rattle.messages.specs.declared.message.Item.{Item}
 use Rattle.messages.proofs.ParseLaws.{Found, bind_found, map_found, request-fits}
 use Rattle.messages.proofs.SpellingLaws.{spells-itself}
+use Rattle.messages.proofs.NameLaws.{name-first}
 
 -- ---- digits
 
@@ -80,15 +81,6 @@ unfolding four_at
 four-at t at {n} s h e q =
     let parts = join-told 256 (two_at t at) (two_at t (at + 2)) (λ _. two-below t (at + 2)) e in
     two_at_lem t at (two (n % 256) ++ s) (omega arith) parts.0 (two_at_lem t (at + 2) s h parts.1 q)
-
--- a name is there byte for byte
-name-first : (name t : List ℕ) → begins_with name t ≡ true → name ++ drop (length name) t ≡ t
-unfolding begins_with
-name-first [] t h = refl
-name-first (a ∷ name) [] h = absurd (false≢true h)
-name-first (a ∷ name) (b ∷ t) h =
-    let w = both (eqb a b) (begins_with name t) h in
-    ap₂ (λ (x : ℕ) (y : List ℕ). x ∷ y) (eqb-true a b w.0) (name-first name t w.1)
 
 pub name-written : (name t s : List ℕ) → begins_with name t ≡ true → SameDigits s (drop (length name) t) → SameDigits (name ++ s) t
 name-written name t s h q =

@@ -1,6 +1,6 @@
 -- Digits are read back as the number or the bytes that were written, and what is read is no larger than its digits allow.
 use Prim.Native.Nat.{ℕ, zero, suc, ◌+◌, ◌*◌, ◌/◌, ◌%◌, ◌<◌, ◌≤◌}
-use mathlib.Core.Bool.{cond, ◌&&◌}
+use mathlib.Core.Bool.{cond}
 use mathlib.Core.List.{List, [], ◌∷◌, ◌++◌, append-nil, append_assoc}
 use mathlib.Core.Option.{Option, none, some, map, none-ne-some}
 use mathlib.Core.Path.{◌≡◌, refl, sym, ap, ◌∙◌}
@@ -24,20 +24,10 @@ use Rattle.wire.specs.Digits.{
   octets_in,
   padded,
 }
-use Rattle.wire.proofs.Tests.{cond-by, and-false, range-told}
+use Rattle.wire.proofs.Tests.{cond-by, and-false}
+use Rattle.wire.proofs.DigitRange.{Below, digit_within}
 
 -- ---- how large a number can be
-
-abbrev Below : ℕ → Option ℕ → Type 0
-Below k none = Unit {0}
-Below k (some n) = n < k
-
-digit_within : (b : ℕ) → Below 16 (value_of b)
-unfolding value_of
-digit_within b =
-    cond-by (Below 16) (leb 0x30 b && leb b 0x39) _ _ (λ t. omega (arith, (range-told 0x30 b 0x39 t).1))
-    (λ _. cond-by (Below 16) (leb 0x41 b && leb b 0x46) _ _ (λ t. omega (arith, (range-told 0x41 b 0x46 t).1))
-    (λ _. cond-by (Below 16) (leb 0x61 b && leb b 0x66) _ _ (λ t. omega (arith, (range-told 0x61 b 0x66 t).1)) (λ _. tt)))
 
 join-within : (m base : ℕ) (high low : Option ℕ) → Below m high → Below base low → Below (m * base) (join base high low)
 join-within m base none low p q = tt
