@@ -1,38 +1,28 @@
--- A date that is accepted may be stored; what a decision's reply is where no bytes stand beside it, and what a text or a count past its 16 bytes comes to.
-use mathlib.Core.Path.{◌≡◌, refl, sym, ap, ◌∙◌, subst}
+-- A date that is accepted may be stored, what was found is a row of the list, and a tag in the store counts at most 16 bytes.
+use mathlib.Core.Path.{◌≡◌, refl, sym, ap, ◌∙◌}
 use mathlib.Core.Bool.{true}
-use mathlib.Core.List.{List, [], ◌∷◌}
+use mathlib.Core.List.{List}
 use Prim.Native.Nat.{ℕ, ◌≤◌}
 use native.Mathlib.Omega.{arith}
 use lib.Dec.{leb}
 use lib.ListN.{length}
-use lib.Seq.{take-append-le}
 use borrow.Author.Tests.{leb-true, le-leb}
-use Rattle.plan.specs.Stores.{Entry}
-use Rattle.plan.specs.Plans.{stores_of}
-use Rattle.messages.specs.View.{reply_of, reply_count}
+use Rattle.std.specs.Prelude as std
 use Rattle.messages.specs.declared.message.Date.{Date}
-use Rattle.messages.specs.declared.message.ScheduleAnswer.{ScheduleAnswer}
 use Rattle.calendar.specs.Calendar.{is_accepted}
 use Rattle.calendar.proofs.DayLaws.{month-most, day-facts, weekday-most}
 use Rattle.calendar.proofs.DateLaws.{accepted}
-use Rattle.messages.specs.declared.message.Reply.{Reply}
 use Rattle.store.specs.Fields.{Field, read}
 use Rattle.store.specs.Layout.{tag_length, former_length}
-use Rattle.store.specs.Settings.{setting_at, Listed, found}
-use Rattle.store.specs.Contents.{is_storable, item_bytes}
-use Rattle.store.specs.declared.contents.ItemBytes.{ItemBytes}
+use Rattle.wire.specs.Digits.{found}
+use Rattle.store.specs.Settings.{setting_at, Listed}
+use Rattle.store.specs.Contents.{is_storable}
 use Rattle.store.specs.declared.settings.Row.{Row}
-use Rattle.store.specs.declared.settings.Found.{Found}
 use Rattle.wire.proofs.Tests.{both}
 use Rattle.store.proofs.StoreLaws.{is_field, in_range-one}
 use Rattle.store.proofs.SettingLaws.{setting-listed}
 use Rattle.layouts.proofs.RangeLaws.{range-fields}
-use Rattle.actions.specs.Act as act
-use Rattle.actions.specs.View.{identity_bytes}
-use Rattle.actions.specs.Inner.{Decides, StoreInRange}
-use Rattle.actions.specs.declared.Effect.{Effect}
-use Rattle.actions.specs.declared.Decision.{Decision}
+use Rattle.actions.specs.Inner.{StoreInRange}
 
 -- a date that is accepted may be stored
 pub accepted-storable : (d : Date) → is_accepted d ≡ true → is_storable d ≡ true
@@ -57,33 +47,9 @@ accepted-storable d e =
       le-leb d.minute 59 a.minute,
     )
 
-pub decides_as : {d : Decision} {e f : act.Effect} → Decides d e → e ≡ f → Decides d f
-decides_as {d} h q = subst (λ (e : act.Effect). Decides d e) q h
-
 -- what was found at a page and a code is a row of the list
-pub row_listed : (page code : ℕ) (r : Row) {f : Found} → found f ≡ setting_at page code → f ≡ Found.Listed r → Listed r
+pub row_listed : (page code : ℕ) (r : Row) {f : std.Option Row} → found f ≡ setting_at page code → f ≡ std.Some r → Listed r
 row_listed page code r e q = setting-listed page code r (sym e ∙ ap found q)
-
--- where no bytes are counted, it doesn't matter which stand there
-no_bytes : (r : Reply) (s t : List ℕ) → reply_count r ≡ 0 → reply_of r s ≡ reply_of r t
-no_bytes Reply.Null s t e = refl
-no_bytes (Reply.Got o p) s t e = refl
-no_bytes (Reply.Set o p) s t e = refl
-no_bytes (Reply.PowerStatus o m) s t e = refl
-no_bytes (Reply.PowerControl o mode) s t e = refl
-no_bytes (Reply.Date a) s t e = refl
-no_bytes (Reply.Item i count) s t e = rw e
-no_bytes (Reply.TagWritten o count) s t e = rw e
-no_bytes (Reply.Schedule ScheduleAnswer.Read) s t e = absurd (omega arith)
-no_bytes (Reply.Schedule (ScheduleAnswer.Written o)) s t e = absurd (omega arith)
-no_bytes (Reply.Schedule (ScheduleAnswer.Enabled o k enable)) s t e = refl
-
-pub decides_reply : (d : Decision) (r : Reply) (es : List Entry) → d.effect ≡ Effect.Replies r → stores_of d.plan ≡ es
-    → reply_count r ≡ 0 → Decides d (act.replies (reply_of r []) es)
-decides_reply d r es q p e = record { effect = rw (q, p, no_bytes r d.bytes [] e); sendable = rw (q, e) (omega arith) }
-
-pub seen-whole : (t : ItemBytes) → length t.bytes ≡ 16 → t.count ≤ 16 → identity_bytes t ≡ item_bytes t
-seen-whole t l h = take-append-le t.count t.bytes (0 ∷ []) (omega arith)
 
 -- in a store that is in range a field holds at most what it may
 field_at-most : (m : List ℕ) (f : Field) → StoreInRange m → is_field f ≡ true → read m f ≤ f.most

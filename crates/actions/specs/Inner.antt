@@ -7,15 +7,16 @@ use Rattle.layouts.specs.Layouts.{in_range}
 use Rattle.actions.specs.Act as act
 use Rattle.actions.specs.declared.Effect.{Effect}
 use Rattle.actions.specs.declared.Decision.{Decision}
+use Rattle.actions.specs.declared.Identity.{Identity}
 
-abbrev pub effect_with : Effect → List ℕ → List Entry → act.Effect
-effect_with (Effect.Replies r) bytes es = act.replies (reply_of r bytes) es
-effect_with Effect.Begins bytes es = act.begins
+abbrev pub effect_with : Effect → List Entry → act.Effect
+effect_with (Effect.Replies r) es = act.replies (reply_of r) es
+effect_with Effect.Begins es = act.begins
 
 abbrev pub decision : Decision → act.Effect
-decision d = effect_with d.effect d.bytes (stores_of d.plan)
+decision d = effect_with d.effect (stores_of d.plan)
 
--- the bytes beside a reply are there
+-- a reply counts no more bytes than there are
 abbrev pub Sendable : Effect → Type 0
 Sendable (Effect.Replies r) = reply_count r ≤ 16
 Sendable Effect.Begins = Unit {0}
@@ -29,3 +30,8 @@ pub record Decides (d : Decision) (e : act.Effect) : Type 0 where
 pub record StoreInRange (m : List ℕ) : Type 0 where
   pub size : length m ≡ 128
   pub ranged : in_range m ≡ true
+
+-- an identity whose counts are within the 16 bytes that are there
+pub record ItemsFit (n : Identity) : Type 0 where
+  pub serial_few : n.serial.count ≤ 16
+  pub model_few : n.model.count ≤ 16

@@ -3,12 +3,14 @@
 use mathlib.Core.Path.{◌≡◌, refl, ap, sym, ◌∙◌, subst}
 use mathlib.Core.Bool.{Bool, true, false, cond, ◌&&◌, and_assoc, false≢true}
 use mathlib.Core.List.{List, [], ◌∷◌, ◌++◌}
+use Rattle.std.specs.Prelude.{Result, Ok, Err}
 use Prim.Native.Nat.{ℕ, zero, suc, min, ◌+◌, ◌≤◌, ◌<◌}
 use native.Mathlib.Numerals.{add-one}
 use native.Mathlib.Omega.{arith}
 use lib.Dec.{ltb, leb, eqb}
 use lib.ListN.{length, get_or, take, length-take, length-append, length-set}
 use borrow.Author.Tests.{le-leb, lt-leb, leb-true, leb-false, ne_eqb, eqb-true, eqb-false, ltb-false}
+use Rattle.std.proofs.Common.{Result, Ok, Err}
 use Rattle.wire.specs.Refusal.{number_of, changes_nothing}
 use Rattle.wire.specs.declared.refusal.Refusal.{Refusal}
 use Rattle.wire.specs.Packet.{soh, size, packet_text, least_buffer}
@@ -21,7 +23,7 @@ use Rattle.plan.specs.Inner.{Committable}
 use Rattle.layouts.specs.Layouts.{older_mark, layout_mark, is_layout, fits_layout, conversion, unused_store}
 use Rattle.layouts.proofs.ConversionLaws.{conversion-none, conversion-ready}
 use Rattle.plan.specs.Inner.{Committable}
-use Rattle.store.specs.declared.contents.ItemBytes.{ItemBytes}
+use Rattle.wire.specs.declared.digits.Octets.{Octets}
 use Rattle.receiver.specs.Receive as receive
 use Rattle.receiver.specs.View.{held_of, reception_in, receipt, emptied, with_byte, receiver_after, WholeOf}
 use Rattle.receiver.specs.Inner.{asked, checkpoint}
@@ -31,10 +33,8 @@ use Rattle.receiver.specs.declared.Reception.{Reception}
 use Rattle.receiver.proofs.Laws.{one_more, count-short, asked-tells, asked-proper}
 use Rattle.calls.specs.Board as calls
 use Rattle.calls.specs.Board.{Identity, pending, idle, is_pending, place_of, owed_of}
-use Rattle.calls.specs.Calls.{mark, erase_mark, first_bytes, same, entry_check, is_short, clears_at, refuse, at_rest, erasing, is_sound_as, is_sound, entry_check_of, call_on, on_call, clear_step, end_step, erase_step, step_on, on_step, on_start}
+use Rattle.calls.specs.Calls.{refused_entry, mark, erase_mark, first_bytes, same, entry_check, is_short, clears_at, refuse, at_rest, erasing, is_sound_as, is_sound, entry_check_of, call_on, on_call, clear_step, end_step, erase_step, step_on, on_step, on_start}
 use Rattle.calls.specs.View.{entry_check_as}
-use Rattle.calls.specs.Inner.{refusal_at}
-use Rattle.calls.specs.declared.EntryCheck.{EntryCheck}
 use Rattle.calls.proofs.Steps.{Passed, idle-passed, pending-passed}
 use Rattle.actions.specs.Act.{Effect, replies, begins, effect}
 use Rattle.actions.specs.View.{identity_bytes}
@@ -47,15 +47,12 @@ use Rattle.packets.specs.declared.Planned as packets
 use Rattle.packets.proofs.IdentityLaws.{named_told}
 use Rattle.board.specs.BoardKind.{Call, byte, gap, lends, start_other, board_kind}
 use Rattle.board.specs.View.{erase_of, state_of, answer_of, Gives, planned_outcome, Plans, start_refusal_in, start_refusal_of, given_identity}
-use Rattle.board.specs.Values.{fresh_board, no_board, Starts, with_receiver, with_erase, byte_leaves, call_leaves, step_leaves}
+use Rattle.board.specs.Values.{fresh_board, Starts, with_receiver, with_erase, byte_leaves, call_leaves, step_leaves}
 use Rattle.board.specs.Inner.{identity_fits, start_state, start_state_as, erase_fits, sound_fits, Sized, Accepting, Acting, Erasing, Planning, packet_leaves_by, packet_leaves}
 use Rattle.board.specs.declared.board.Erase.{Erase}
 use Rattle.board.specs.declared.board.Board.{Board}
 use Rattle.board.specs.declared.board.Answer.{Answer}
 use Rattle.board.specs.declared.board.Planned.{Planned}
-use Rattle.board.specs.declared.board.Started.{Started}
-use Rattle.board.specs.declared.board.StartAnswer.{StartAnswer}
-use Rattle.board.specs.declared.board.StartState.{StartState}
 use Rattle.board.proofs.BoardLaws.{Resting, resting, whole_is}
 use Rattle.board.proofs.Bounds.{call-committable, step-committable}
 use Rattle.board.proofs.ValueLaws.{erase-back, fresh-state, refusal-leaves}
@@ -63,7 +60,7 @@ use Rattle.board.proofs.ValueLaws.{erase-back, fresh-state, refusal-leaves}
 -- ---- soundness by the counts of the texts
 
 -- a text is seen as at most 17 bytes, so it is short where its count is
-module _ (t : ItemBytes) (all : length t.bytes ≡ 16) where
+module _ (t : Octets) (all : length t.bytes ≡ 16) where
   seen-length : length (identity_bytes t) ≡ min t.count 17
   seen-length = simp (length-take, length-append, all)
 
@@ -88,20 +85,23 @@ unfolding is_sound_as
 erase-fits r Erase.Idle m h = rw (asked-tells (held_of r))
 erase-fits r (Erase.Pending p owed) m h = rw (none-held r.len r.held h)
 
-module _ (b : Board) (m : List ℕ) (serial : length b.serial.bytes ≡ 16) (model : length b.model.bytes ≡ 16) (held : length b.receiver.held ≡ 73) where
-  identity-fits : is_identity (state_of b).ident ≡ identity_fits b.id b.serial.count b.model.count
+module _ (b : Board) (m : List ℕ) (serial : length b.identity.serial.bytes ≡ 16) (model : length b.identity.model.bytes ≡ 16)
+    (held : length b.receiver.held ≡ 73) where
+  identity-fits : is_identity (state_of b).ident ≡ identity_fits b.identity.id b.identity.serial.count b.identity.model.count
   unfolding is_identity
-  identity-fits = rw (seen_few b.serial serial, seen_few b.model model)
+  identity-fits = rw (seen_few b.identity.serial serial, seen_few b.identity.model model)
 
   sound-fits : is_sound board_kind (state_of b) m
-      ≡ sound_fits b.id b.serial.count b.model.count b.receiver.len (asked (held_of b.receiver)) b.erase m
+      ≡ sound_fits b.identity.id b.identity.serial.count b.identity.model.count b.receiver.len (asked (held_of b.receiver)) b.erase m
   unfolding is_sound
   sound-fits =
       rw (identity-fits, erase-fits b.receiver b.erase m held)
-      (and_assoc (identity_fits b.id b.serial.count b.model.count) (eqb (length m) 128) (is_sound_as board_kind (erase_of b.erase) (held_of b.receiver) m))
+      (and_assoc (identity_fits b.identity.id b.identity.serial.count b.identity.model.count) (eqb (length m) 128)
+      (is_sound_as board_kind (erase_of b.erase) (held_of b.receiver) m))
 
-  pub entry-told : (wanted : ℕ) (sound pendingNow short : Bool) (e : EntryCheck) → wanted ≡ asked (held_of b.receiver)
-      → sound ≡ sound_fits b.id b.serial.count b.model.count b.receiver.len wanted b.erase m → pendingNow ≡ is_pending (erase_of b.erase)
+  pub entry-told : (wanted : ℕ) (sound pendingNow short : Bool) (e : Result Bool Refusal) → wanted ≡ asked (held_of b.receiver)
+      → sound ≡ sound_fits b.identity.id b.identity.serial.count b.identity.model.count b.receiver.len wanted b.erase m
+      → pendingNow ≡ is_pending (erase_of b.erase)
       → entry_check_as e ≡ entry_check short sound pendingNow → entry_check_as e ≡ entry_check_of board_kind short (state_of b) m
   unfolding entry_check_of
   entry-told wanted sound pendingNow short e wants is phase told = told ∙ rw (is, phase, wants, sound-fits)
@@ -109,84 +109,112 @@ module _ (b : Board) (m : List ℕ) (serial : length b.serial.bytes ≡ 16) (mod
 -- ---- the entry check
 
 -- the code's answer is the definition's
-abbrev pub Entered : EntryCheck → (short : Bool) → BoardState → List ℕ → Type 0
+abbrev pub Entered : Result Bool Refusal → (short : Bool) → BoardState → List ℕ → Type 0
 Entered e short s m = entry_check_as e ≡ entry_check_of board_kind short s m
 
-call-stopped : (c : Call) (s : BoardState) (m lent : List ℕ) (e : EntryCheck) → (e ≡ EntryCheck.NonePending → ⊥)
-    → call_on board_kind (entry_check_as e) c s m lent ≡ refuse board_kind (refusal_at (entry_check_as e) 9) s lent
-unfolding call_on
-call-stopped c s m lent EntryCheck.ShortBuffer k = refl
-call-stopped c s m lent EntryCheck.Unsound k = refl
-call-stopped c s m lent EntryCheck.NonePending k = absurd (k refl)
-call-stopped c s m lent EntryCheck.Pending k = refl
+-- an arm of a match on the code's answer
+pub ok_is : {entry : Result Bool Refusal} {b : Bool} (x : Bool) → entry ≡ Ok x → x ≡ b → entry ≡ Ok b
+ok_is x e f = cc
 
-step-stopped : (s : BoardState) (lent : List ℕ) (e : EntryCheck) → (e ≡ EntryCheck.Pending → ⊥)
-    → step_on board_kind (entry_check_as e) s lent ≡ refuse board_kind (refusal_at (entry_check_as e) 13) s lent
-unfolding step_on
-step-stopped s lent EntryCheck.ShortBuffer k = refl
-step-stopped s lent EntryCheck.Unsound k = refl
-step-stopped s lent EntryCheck.NonePending k = refl
-step-stopped s lent EntryCheck.Pending k = absurd (k refl)
-
--- these refusals change nothing
-call-number : (e : EntryCheck) → changes_nothing (refusal_at (entry_check_as e) 9) ≡ true
-unfolding changes_nothing
-call-number EntryCheck.ShortBuffer = refl
-call-number EntryCheck.Unsound = refl
-call-number EntryCheck.NonePending = refl
-call-number EntryCheck.Pending = refl
+-- the refusals of the entry check change nothing
+entry-number : (short sound erasePending : Bool) (n : ℕ) → refused_entry n ≡ entry_check short sound erasePending → changes_nothing n ≡ true
+unfolding entry_check changes_nothing
+entry-number true sound erasePending n e = let k : n ≡ 10 = cc in rw k
+entry-number false false erasePending n e = let k : n ≡ 12 = cc in rw k
+entry-number false true true n e = cc
+entry-number false true false n e = cc
 
 refused-plan : (p : Planned) (b : Board) (r : Refusal) (lent : List ℕ) → Planning p b (Answer.Refused r) [] → planned_outcome p lent ≡ refuse board_kind (number_of r) (state_of b) lent
 unfolding refuse
 refused-plan p b r lent is = rw (is.board, is.answer, is.stores)
 
 -- a call, by what its entry check answered
-module _ (c : Call) (b : Board) (m lent : List ℕ) (entry : EntryCheck) (short : Bool) (told : Entered entry short (state_of b) m)
+module _ (c : Call) (b : Board) (m lent : List ℕ) (entry : Result Bool Refusal) (short : Bool) (told : Entered entry short (state_of b) m)
     (lent-short : short ≡ (lends c && is_short lent)) where
   call-entered : on_call board_kind c (state_of b) m lent ≡ call_on board_kind (entry_check_as entry) c (state_of b) m lent
   unfolding on_call
   call-entered = rw (told, lent-short)
 
-  module _ (r : Refusal) (number : number_of r ≡ refusal_at (entry_check_as entry) 9) (k : (entry ≡ EntryCheck.NonePending → ⊥)) where
+  -- by the entry check, or by an erase that is pending
+  module _ (r : Refusal) (stops : call_on board_kind (entry_check_as entry) c (state_of b) m lent ≡ refuse board_kind (number_of r) (state_of b) lent)
+      (nothing : changes_nothing (number_of r) ≡ true) where
     call-refused_is : on_call board_kind c (state_of b) m lent ≡ refuse board_kind (number_of r) (state_of b) lent
-    call-refused_is = call-entered ∙ call-stopped c (state_of b) m lent entry k ∙ rw number
+    call-refused_is = call-entered ∙ stops
 
     kept : b ≡ call_leaves c b (on_call board_kind c (state_of b) m lent)
-    kept = rw call-refused_is (sym (refusal-leaves c b (number_of r) (state_of b) lent (rw number (call-number entry))))
+    kept = rw call-refused_is (sym (refusal-leaves c b (number_of r) (state_of b) lent nothing))
+
+    refused_plans : (p : Planned) → Planning p b (Answer.Refused r) [] → Plans p lent (call_leaves c b) (on_call board_kind c (state_of b) m lent)
+    refused_plans p is = record { outcome = refused-plan p b r lent is ∙ sym call-refused_is; value = is.board ∙ kept }
+
+    refused_gives : Gives (record { board = b; answer = Answer.Refused r }) m m lent (call_leaves c b) (on_call board_kind c (state_of b) m lent)
+    unfolding refuse
+    refused_gives = record { result = sym (rw call-refused_is); value = kept }
+
+  module _ (r : Refusal) (e : entry ≡ Err r) where
+    entry-stops : call_on board_kind (entry_check_as entry) c (state_of b) m lent ≡ refuse board_kind (number_of r) (state_of b) lent
+    unfolding call_on
+    entry-stops = rw e
+
+    entry-nothing : changes_nothing (number_of r) ≡ true
+    unfolding entry_check_of
+    entry-nothing = entry-number short _ _ (number_of r) (rw e at told)
 
     pub call-refused_plans : (p : Planned) → Planning p b (Answer.Refused r) [] → Plans p lent (call_leaves c b) (on_call board_kind c (state_of b) m lent)
-    call-refused_plans p is = record { outcome = refused-plan p b r lent is ∙ sym call-refused_is; value = is.board ∙ kept }
+    call-refused_plans = refused_plans r entry-stops entry-nothing
 
     pub call-refused_gives : Gives (record { board = b; answer = Answer.Refused r }) m m lent (call_leaves c b) (on_call board_kind c (state_of b) m lent)
-    unfolding refuse
-    call-refused_gives = record { result = sym (rw call-refused_is); value = kept }
+    call-refused_gives = refused_gives r entry-stops entry-nothing
 
-  call-done_is : entry ≡ EntryCheck.NonePending → kind.does c (state_of b) m lent ≡ on_call board_kind c (state_of b) m lent
+  module _ (e : entry ≡ Ok true) where
+    erase-stops : call_on board_kind (entry_check_as entry) c (state_of b) m lent ≡ refuse board_kind 9 (state_of b) lent
+    unfolding call_on
+    erase-stops = rw e
+
+    pub call-pending_plans : (p : Planned) → Planning p b (Answer.Refused Refusal.ErasePending) []
+        → Plans p lent (call_leaves c b) (on_call board_kind c (state_of b) m lent)
+    unfolding changes_nothing
+    call-pending_plans = refused_plans Refusal.ErasePending erase-stops refl
+
+    pub call-pending_gives : Gives (record { board = b; answer = Answer.Refused Refusal.ErasePending }) m m lent (call_leaves c b) (on_call board_kind c (state_of b) m lent)
+    unfolding changes_nothing
+    call-pending_gives = refused_gives Refusal.ErasePending erase-stops refl
+
+  call-done_is : entry ≡ Ok false → kind.does c (state_of b) m lent ≡ on_call board_kind c (state_of b) m lent
   unfolding call_on
   call-done_is e = sym (call-entered ∙ rw e)
 
-  pub call-done_plans : (p : Planned) (lent' : List ℕ) → entry ≡ EntryCheck.NonePending → Plans p lent' (call_leaves c b) (kind.does c (state_of b) m lent)
+  pub call-done_plans : (p : Planned) (lent' : List ℕ) → entry ≡ Ok false → Plans p lent' (call_leaves c b) (kind.does c (state_of b) m lent)
       → Plans p lent' (call_leaves c b) (on_call board_kind c (state_of b) m lent)
   call-done_plans p lent' e h = subst (Plans p lent' (call_leaves c b)) (call-done_is e) h
 
 -- a step, by what its entry check answered
-module _ (b : Board) (m lent : List ℕ) (entry : EntryCheck) (told : Entered entry (is_short lent) (state_of b) m) where
+module _ (b : Board) (m lent : List ℕ) (entry : Result Bool Refusal) (told : Entered entry (is_short lent) (state_of b) m) where
   step-entered : on_step board_kind (state_of b) m lent ≡ step_on board_kind (entry_check_as entry) (state_of b) lent
   unfolding on_step
   step-entered = rw told
 
-  pub step-refused_plans : (p : Planned) (r : Refusal) → Planning p b (Answer.Refused r) [] → number_of r ≡ refusal_at (entry_check_as entry) 13
-      → (entry ≡ EntryCheck.Pending → ⊥) → Plans p lent (step_leaves b) (on_step board_kind (state_of b) m lent)
+  refused_step : (r : Refusal) → step_on board_kind (entry_check_as entry) (state_of b) lent ≡ refuse board_kind (number_of r) (state_of b) lent
+      → (p : Planned) → Planning p b (Answer.Refused r) [] → Plans p lent (step_leaves b) (on_step board_kind (state_of b) m lent)
   unfolding refuse
-  step-refused_plans p r is number k =
-      let q : on_step board_kind (state_of b) m lent ≡ refuse board_kind (number_of r) (state_of b) lent
-      = step-entered ∙ step-stopped (state_of b) lent entry k ∙ rw number in
+  refused_step r stops p is =
+      let q : on_step board_kind (state_of b) m lent ≡ refuse board_kind (number_of r) (state_of b) lent = step-entered ∙ stops in
       record {
         outcome = refused-plan p b r lent is ∙ sym q;
         value = is.board ∙ rw (q, erase-back b.erase);
       }
 
-  pub step_erased_plans : (p : Planned) (lent' : List ℕ) → entry ≡ EntryCheck.Pending
+  pub step-refused_plans : (p : Planned) (r : Refusal) → Planning p b (Answer.Refused r) [] → entry ≡ Err r
+      → Plans p lent (step_leaves b) (on_step board_kind (state_of b) m lent)
+  unfolding step_on
+  step-refused_plans p r is e = refused_step r (rw e) p is
+
+  pub step_idle_plans : (p : Planned) → Planning p b (Answer.Refused Refusal.NoErasePending) [] → entry ≡ Ok false
+      → Plans p lent (step_leaves b) (on_step board_kind (state_of b) m lent)
+  unfolding step_on
+  step_idle_plans p is e = refused_step Refusal.NoErasePending (rw e) p is
+
+  pub step_erased_plans : (p : Planned) (lent' : List ℕ) → entry ≡ Ok true
       → Plans p lent' (step_leaves b) (erase_step board_kind (place_of (erase_of b.erase)) (owed_of false (erase_of b.erase)) (state_of b) lent)
       → Plans p lent' (step_leaves b) (on_step board_kind (state_of b) m lent)
   unfolding step_on
@@ -198,20 +226,20 @@ idle-is : (e : Erase) → is_pending (erase_of e) ≡ false → e ≡ Erase.Idle
 idle-is Erase.Idle h = refl
 idle-is (Erase.Pending p owed) h = absurd (false≢true (sym h))
 
-module _ (b : Board) (m : List ℕ) (entry : EntryCheck) (short : Bool) (told : Entered entry short (state_of b) m) where
-  idle-behind : entry ≡ EntryCheck.NonePending → Passed short (is_sound board_kind (state_of b) m) (is_pending (erase_of b.erase)) false
+module _ (b : Board) (m : List ℕ) (entry : Result Bool Refusal) (short : Bool) (told : Entered entry short (state_of b) m) where
+  idle-behind : entry ≡ Ok false → Passed short (is_sound board_kind (state_of b) m) (is_pending (erase_of b.erase)) false
   unfolding entry_check_of
   idle-behind e = idle-passed short _ _ (sym told ∙ rw e)
 
-  pending-behind : entry ≡ EntryCheck.Pending → Passed short (is_sound board_kind (state_of b) m) (is_pending (erase_of b.erase)) true
+  pending-behind : entry ≡ Ok true → Passed short (is_sound board_kind (state_of b) m) (is_pending (erase_of b.erase)) true
   unfolding entry_check_of
   pending-behind e = pending-passed short _ _ (sym told ∙ rw e)
 
-  idle-erase : entry ≡ EntryCheck.NonePending → b.erase ≡ Erase.Idle
+  idle-erase : entry ≡ Ok false → b.erase ≡ Erase.Idle
   idle-erase e = idle-is b.erase (idle-behind e).phase
 
-module _ (b : Board) (m lent : List ℕ) (entry : EntryCheck) (told : Entered entry (ltb (length lent) least_buffer) (state_of b) m) where
-  pub accepting : (wanted : ℕ) → wanted ≡ asked (held_of b.receiver) → Sized b → entry ≡ EntryCheck.NonePending → Accepting b wanted m lent
+module _ (b : Board) (m lent : List ℕ) (entry : Result Bool Refusal) (told : Entered entry (ltb (length lent) least_buffer) (state_of b) m) where
+  pub accepting : (wanted : ℕ) → wanted ≡ asked (held_of b.receiver) → Sized b → entry ≡ Ok false → Accepting b wanted m lent
   accepting wanted wants sized e =
       let p = idle-behind b m entry _ told e in
       record {
@@ -222,7 +250,7 @@ module _ (b : Board) (m lent : List ℕ) (entry : EntryCheck) (told : Entered en
         room = ltb-false (length lent) least_buffer p.long;
       }
 
-  pub erasing_behind : length b.receiver.held ≡ 73 → entry ≡ EntryCheck.Pending → Erasing b lent
+  pub erasing_behind : length b.receiver.held ≡ 73 → entry ≡ Ok true → Erasing b lent
   unfolding is_sound is_sound_as
   erasing_behind held e =
       let p = pending-behind b m entry _ told e in
@@ -295,19 +323,6 @@ start-told i m =
     go false true false fits es h = refl
     go false false named fits es h = refl
 
-abbrev Named : Bool → calls.Started (calls.Erase Bool) → Type 0
-Named n (calls.board e es) = n ≡ true
-Named n (calls.start_refused k) = Unit {0}
-
-ready-named : (m : List ℕ) (n : Bool) → Named n (start_state m n)
-ready-named m true =
-    cond-by (Named true) (eqb (length m) 128 && eqb (mark m) erase_mark) _ _ (λ _. refl)
-    (λ _. cond-by (Named true) (eqb (length m) 128 && is_layout (mark m)) _ _
-    (λ _. cond-by (Named true) (fits_layout m) _ _ (λ _. refl) (λ _. tt)) (λ _. tt))
-ready-named m false =
-    cond-by (Named false) (eqb (length m) 128 && eqb (mark m) erase_mark) _ _ (λ _. tt)
-    (λ _. cond-by (Named false) (eqb (length m) 128 && is_layout (mark m)) _ _ (λ _. tt) (λ _. tt))
-
 abbrev Sizes : List ℕ → calls.Started (calls.Erase Bool) → Type 0
 Sizes m (calls.board e es) = (length m ≡ 128) × (get_or m 0 0 ≡ older_mark → fits_layout m ≡ true)
 Sizes m (calls.start_refused k) = Unit {0}
@@ -323,56 +338,46 @@ ready-sized m n =
     (λ t. cond-by (Sizes m) (n && fits_layout m) _ _
     (λ u. (eqb-true (length m) 128 (both (eqb (length m) 128) _ t).0, λ q. (both n (fits_layout m) u).1)) (λ _. tt)) (λ _. tt))
 
-module _ (id : ℕ) (serial model m : List ℕ) (s : StartState) (n : Bool) (named : n ≡ identity_fits id (length serial) (length model))
+module _ (id : ℕ) (serial model m : List ℕ) (s : Result Erase Refusal) (n : Bool) (named : n ≡ identity_fits id (length serial) (length model))
     (told : start_state_as s ≡ start_state m n) where
   same-named : n ≡ is_identity (given_identity id serial model)
   unfolding is_identity
   same-named = named
 
-  start-named : (e : Erase) → s ≡ StartState.Ready e → is_identity (given_identity id serial model) ≡ true
-  start-named e q = sym same-named ∙ subst (Named n) (sym told ∙ ap start_state_as q) (ready-named m n)
-
-  pub serial_few : (e : Erase) → s ≡ StartState.Ready e → length serial ≤ 16
-  serial_few e q = (named_told (given_identity id serial model) (start-named e q)).serial
-
-  pub model_few : (e : Erase) → s ≡ StartState.Ready e → length model ≤ 16
-  model_few e q = (named_told (given_identity id serial model) (start-named e q)).model
-
   -- a board is started on 128 bytes alone, which what is stored fits
-  pub sized : (e : Erase) → s ≡ StartState.Ready e → length m ≡ 128
+  pub sized : (e : Erase) → s ≡ Ok e → length m ≡ 128
   sized e q = (subst (Sizes m) (sym told ∙ ap start_state_as q) (ready-sized m n)).0
 
-  pub convertible : (e : Erase) → s ≡ StartState.Ready e → get_or m 0 0 ≡ older_mark → fits_layout m ≡ true
+  pub convertible : (e : Erase) → s ≡ Ok e → get_or m 0 0 ≡ older_mark → fits_layout m ≡ true
   convertible e q older = (subst (Sizes m) (sym told ∙ ap start_state_as q) (ready-sized m n)).1 older
 
-  pub committable : (e : Erase) {es : List Entry} → s ≡ StartState.Ready e → es ≡ conversion m → Committable (length m) es
+  pub committable : (e : Erase) {es : List Entry} → s ≡ Ok e → es ≡ conversion m → Committable (length m) es
   committable e q is = rw (is, sized e q) (conversion-ready m)
 
   start_is : on_start board_kind (given_identity id serial model) m ≡ started_as (given_identity id serial model) (conversion m) (start_state_as s)
   start_is = start-told (given_identity id serial model) m ∙ rw (← same-named, told)
 
-  pub refused-answer : (x : Refusal) → s ≡ StartState.Refused x
-      → start_refusal_of (StartAnswer.Refused x) ≡ start_refusal_in (on_start board_kind (given_identity id serial model) m)
+  pub refused-answer : (x : Refusal) → s ≡ Err x
+      → start_refusal_of (Err x) ≡ start_refusal_in (on_start board_kind (given_identity id serial model) m)
   refused-answer x q = rw (start_is, q)
 
-  pub ready-answer : (e : Erase) → s ≡ StartState.Ready e → start_refusal_of StartAnswer.Ready ≡ start_refusal_in (on_start board_kind (given_identity id serial model) m)
+  pub ready-answer : (e : Erase) → s ≡ Ok e → start_refusal_of (Ok tt) ≡ start_refusal_in (on_start board_kind (given_identity id serial model) m)
   ready-answer e q = rw (start_is, q)
 
-  pub refused-start : (r : Started) (m' : List ℕ) (x : Refusal) → r.answer ≡ StartAnswer.Refused x → r.board ≡ no_board → m' ≡ m → s ≡ StartState.Refused x
-      → Starts r m m' (on_start board_kind (given_identity id serial model) m)
-  refused-start r m' x left value kept q = rw (start_is, q) (record { started = rw left; value = value; store = kept })
+  pub refused-start : (x : Refusal) → s ≡ Err x → Starts (Err x) m m (on_start board_kind (given_identity id serial model) m)
+  refused-start x q = rw (start_is, q) (record { started = refl; value = tt; store = refl })
 
-  pub ready-start : (r : Started) (m' : List ℕ) (e : Erase) {es : List Entry} → r.answer ≡ StartAnswer.Ready
-      → r.board ≡ fresh_board (given_identity id serial model) e → m' ≡ applied es m → es ≡ conversion m → s ≡ StartState.Ready e
-      → Starts r m m' (on_start board_kind (given_identity id serial model) m)
-  ready-start r m' e left value stored is q =
+  pub ready-start : (b : Board) (m' : List ℕ) (e : Erase) {es : List Entry}
+      → b ≡ fresh_board (given_identity id serial model) e → m' ≡ applied es m → es ≡ conversion m → s ≡ Ok e
+      → Starts (Ok b) m m' (on_start board_kind (given_identity id serial model) m)
+  ready-start b m' e value stored is q =
       rw (start_is, q)
-      (record { started = rw (left, value, fresh-state (given_identity id serial model) e); value = rw (erase-back e) value; store = stored ∙ rw is })
+      (record { started = rw (value, fresh-state (given_identity id serial model) e); value = rw (erase-back e) value; store = stored ∙ rw is })
 
 -- ---- a gap
 
-module _ (b next : Board) (m : List ℕ) (entry : EntryCheck) (told : Entered entry false (state_of b) m) (r : Receiver) where
-  pub gap-gives : r ≡ emptied b.receiver → next ≡ with_receiver b r → entry ≡ EntryCheck.NonePending
+module _ (b next : Board) (m : List ℕ) (entry : Result Bool Refusal) (told : Entered entry false (state_of b) m) (r : Receiver) where
+  pub gap-gives : r ≡ emptied b.receiver → next ≡ with_receiver b r → entry ≡ Ok false
       → Gives (record { board = next; answer = Answer.Waiting }) m m [] (call_leaves gap b) (on_call board_kind gap (state_of b) m [])
   unfolding kind.does
   gap-gives empty is e =
@@ -460,18 +465,19 @@ with-either b r false = refl
 -- what a packet did, in code
 module _ (b : Board) (r : packets.Planned) (m lent lent' : List ℕ) (o : BoardOutcome)
     (told : outcome_of r (state_of b).ident lent' ≡ o) where
-  pub acted_begun : (owed : Bool) → r.acted ≡ Acted.Begun owed → (next : Board) → next ≡ fresh_board (state_of b).ident (Erase.Pending 1 owed)
+  pub acted_begun : (owed : Bool) → r.acted ≡ Acted.Begun owed → (made next : Board)
+      → made ≡ fresh_board (state_of b).ident (Erase.Pending 1 owed) → next ≡ made
       → (z : Answer) → answer_of z ≡ answer_after r.acted → Plans (record { board = next; answer = z; plan = r.plan }) lent' (packet_leaves b) o
-  acted_begun owed e next is z says =
-      rw (← told, e) (record { outcome = rw (is, fresh-state (state_of b).ident (Erase.Pending 1 owed), says, e); value = is })
+  acted_begun owed e made next fresh is z says =
+      rw (← told, e) (record { outcome = rw (is, fresh, fresh-state (state_of b).ident (Erase.Pending 1 owed), says, e); value = is ∙ fresh })
 
-  pub acted_other : ((owed : Bool) → r.acted ≡ Acted.Begun owed → ⊥) → b.erase ≡ Erase.Idle → b.receiver.len ≡ 0
-      → (z : Answer) → answer_of z ≡ answer_after r.acted → Plans (record { board = b; answer = z; plan = r.plan }) lent' (packet_leaves b) o
-  acted_other k rested none z says =
+  pub acted_other : ((owed : Bool) → r.acted ≡ Acted.Begun owed → ⊥) → b.erase ≡ Erase.Idle → b.receiver.len ≡ 0 → (next : Board) → next ≡ b
+      → (z : Answer) → answer_of z ≡ answer_after r.acted → Plans (record { board = next; answer = z; plan = r.plan }) lent' (packet_leaves b) o
+  acted_other k rested none next is z says =
       rw (← told)
       (record {
-        outcome = rw (says, rested, none, other-erase r.acted k);
-        value = other-leaves r.acted k;
+        outcome = rw (is, says, rested, none, other-erase r.acted k);
+        value = is ∙ other-leaves r.acted k;
       })
     where
       other-erase : (x : Acted) → ((owed : Bool) → x ≡ Acted.Begun owed → ⊥) → erase_after x ≡ idle
@@ -563,8 +569,10 @@ module _ (b : Board) (wanted : ℕ) (m lent : List ℕ) (a : Accepting b wanted 
             addressed = rw is (record {
               serving = record {
                 known = i.most;
-                serial_few = count-few b.serial a.sized.serial i.serial;
-                model_few = count-few b.model a.sized.model i.model;
+                few = record {
+                  serial_few = count-few b.identity.serial a.sized.serial i.serial;
+                  model_few = count-few b.identity.model a.sized.model i.model;
+                };
                 ready = record { size = rests.size; ranged = rests.ranged };
               };
               room = a.room;
@@ -577,23 +585,6 @@ module _ (b : Board) (wanted : ℕ) (m lent : List ℕ) (a : Accepting b wanted 
           }
 
 -- ---- a plan that is committed
-
-module _ (p : Planned) (m m' lent lent' : List ℕ) (b : Board) (stored : m' ≡ applied (stores_of p.plan) m) where
-  planned_gives : (leaves : BoardOutcome → Board) (o : BoardOutcome) → Plans p lent' leaves o
-      → Gives (record { board = p.board; answer = p.answer }) m m' lent' leaves o
-  planned_gives leaves o h =
-      record {
-        result = ap (λ (x : BoardOutcome). record { answer = x.answer; state = x.state; store = m'; buffer = x.buffer }) h.outcome ∙ rw (stored, ap (λ (x : BoardOutcome). x.stores) h.outcome);
-        value = h.value;
-      }
-
-  pub call_gives : (c : Call) → Plans p lent' (call_leaves c b) (on_call board_kind c (state_of b) m lent)
-      → Gives (record { board = p.board; answer = p.answer }) m m' lent' (call_leaves c b) (on_call board_kind c (state_of b) m lent)
-  call_gives c = planned_gives (call_leaves c b) (on_call board_kind c (state_of b) m lent)
-
-  pub step_gives : Plans p lent' (step_leaves b) (on_step board_kind (state_of b) m lent)
-      → Gives (record { board = p.board; answer = p.answer }) m m' lent' (step_leaves b) (on_step board_kind (state_of b) m lent)
-  step_gives = planned_gives (step_leaves b) (on_step board_kind (state_of b) m lent)
 
 module _ (p : Planned) (m lent lent' : List ℕ) (b : Board) where
   pub call-plan_fits : (c : Call) → Plans p lent' (call_leaves c b) (on_call board_kind c (state_of b) m lent) → Committable (length m) (stores_of p.plan)

@@ -1,5 +1,5 @@
 -- An identity out of range is refused with 12 by every start and every call, whatever the store: a serial number or a model of 17 bytes or
--- more, and the ID 0 that a refused start gives. A board that a start does give is sound.
+-- more, and the ID 0 of the value that stands for no board. A board that a start does give is sound.
 use Prim.Native.Nat.{ℕ, ◌≤◌}
 use mathlib.Core.Bool.{Bool, true, false, cond, ◌&&◌, and-false}
 use mathlib.Core.List.{List}

@@ -6,18 +6,18 @@ use Prim.Native.Nat.{ℕ}
 use lib.ListN.{length}
 use lib.Seq.{take_at}
 use Rattle.wire.specs.Refusal.{changes_nothing}
-use Rattle.wire.specs.Digits.{padded}
+use Rattle.wire.specs.Digits.{octets, padded}
 use Rattle.calls.specs.Board.{Identity}
 use Rattle.calls.specs.Calls.{refuse}
 use Rattle.packets.specs.Packets.{BoardState}
 use Rattle.actions.specs.View.{identity_bytes}
 use Rattle.board.specs.View.{erase_of, state_of}
 use Rattle.board.specs.BoardKind.{Call, byte, gap, board_kind}
-use Rattle.board.specs.Values.{item_value, fresh_board, erase_from, call_leaves}
+use Rattle.board.specs.Values.{fresh_board, erase_from, call_leaves}
 use Rattle.board.specs.declared.board.Board.{Board}
 use Rattle.board.specs.declared.board.Erase.{Erase}
 
-pub item_shown : (t : List ℕ) → identity_bytes (item_value t) ≡ t
+pub item_shown : (t : List ℕ) → identity_bytes (octets t) ≡ t
 unfolding padded
 item_shown t = rw append_assoc (take_at t _ (length t) refl)
 

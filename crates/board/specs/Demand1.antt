@@ -2,7 +2,7 @@
 -- are those of `wire`.
 -- Every byte, gap, erase step and start, on any board, store and lent buffer, is refused with the number of the first check that fails, and goes on
 -- where none does. A refusal leaves every stored byte, and so every setting, and the lent buffer; 1 and 9 to 13 change nothing at all; after 2 to
--- 8 nothing is held. A refused start gives no board: what it gives in code is refused by every call. Sound boards stay sound.
+-- 8 nothing is held. A refused start gives no board, and the value that stands for none is refused by every call. Sound boards stay sound.
 use Rattle.std.specs.Prelude.{Bool, true, false, cond, not, ◌&&◌, ◌||◌, List, [], ◌∷◌, ◌++◌, ◌⊎◌, ◌≡◌, ℕ, ◌+◌, ◌-◌, ◌≤◌, leb, ltb, eqb, length, get_or, take, drop}
 use Rattle.std.proofs.Math.Option.{Option, none, some}
 use Rattle.bitfield.specs.Field.{get_field}
@@ -157,7 +157,7 @@ started_state i m = record { ident = i; held = []; erase = cond (eqb (get_or m 0
 abbrev pub start_stores : List ℕ → List Entry
 start_stores m = cond (eqb (get_or m 0 0) 0x00) (range_of 44 (take 35 (drop 44 unused_bytes)) ++ (entry 0 0x01 ∷ [])) []
 
--- the value that a refused start gives has ID 0: each call on it is refused, a byte or a step with 10 for a short buffer and else with 12
+-- the value that stands for no board has ID 0: each call on it is refused, a byte or a step with 10 for a short buffer and else with 12
 abbrev pub no_board_state : BoardState
 no_board_state = record { ident = record { id = 0; serial = []; model = [] }; held = []; erase = idle }
 

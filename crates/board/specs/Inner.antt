@@ -1,8 +1,9 @@
 -- What inner functions ask and give. No contract of an entry point cites it.
-use Rattle.std.specs.Prelude.{Bool, true, false, cond, not, ◌&&◌, List, [], ◌≡◌, ℕ, ◌≤◌, leb, eqb, length, take}
+use Rattle.std.specs.Prelude.{Bool, true, false, cond, not, ◌&&◌, List, [], ◌≡◌, ℕ, ◌≤◌, leb, eqb, length, take, Result, Ok, Err}
 use Rattle.wire.specs.Packet.{least_id, most_id, most_packet, least_buffer}
 use Rattle.wire.specs.Inner.{Whole}
 use Rattle.wire.specs.Refusal.{number_of}
+use Rattle.wire.specs.declared.refusal.Refusal.{Refusal}
 use Rattle.plan.specs.Stores.{Entry}
 use Rattle.plan.specs.Plans.{stores_of}
 use Rattle.receiver.specs.View.{held_of}
@@ -20,7 +21,6 @@ use Rattle.board.specs.declared.board.Erase.{Erase}
 use Rattle.board.specs.declared.board.Board.{Board}
 use Rattle.board.specs.declared.board.Answer.{Answer}
 use Rattle.board.specs.declared.board.Planned.{Planned}
-use Rattle.board.specs.declared.board.StartState.{StartState}
 
 -- ---- soundness
 
@@ -54,16 +54,16 @@ start_state m named =
     (cond (eqb (length m) 128 && is_layout (mark m)) (cond (named && fits_layout m) (board calls.idle []) (start_refused 12))
     (start_refused 11))
 
-abbrev pub start_state_as : StartState → Started (calls.Erase Bool)
-start_state_as (StartState.Refused r) = start_refused (number_of r)
-start_state_as (StartState.Ready e) = board (erase_of e) []
+abbrev pub start_state_as : Result Erase Refusal → Started (calls.Erase Bool)
+start_state_as (Ok e) = board (erase_of e) []
+start_state_as (Err r) = start_refused (number_of r)
 
 -- ---- what the calls behind the entry check ask
 
 -- the lengths of a board's arrays, which their types give
 pub record Sized (b : Board) : Type 0 where
-  pub serial : length b.serial.bytes ≡ 16
-  pub model : length b.model.bytes ≡ 16
+  pub serial : length b.identity.serial.bytes ≡ 16
+  pub model : length b.identity.model.bytes ≡ 16
   pub held : length b.receiver.held ≡ most_packet
 
 -- a sound board with no erase pending, whose held bytes ask for so many, and a buffer for the reply
@@ -76,13 +76,13 @@ pub record Accepting (b : Board) (wanted : ℕ) (m lent : List ℕ) : Type 0 whe
 
 -- an ID in range, nothing held, and a buffer for the reply
 pub record Erasing (b : Board) (lent : List ℕ) : Type 0 where
-  pub known : b.id ≤ most_id
+  pub known : b.identity.id ≤ most_id
   pub none : b.receiver.len ≡ 0
   pub room : least_buffer ≤ length lent
 
 -- a board whose receiver has given out the first n bytes of its array
 pub record Acting (b : Board) (n : ℕ) (m lent : List ℕ) : Type 0 where
-  pub addressed : Addressed b.id b.serial b.model m lent
+  pub addressed : Addressed b.identity m lent
   pub sized : Sized b
   pub idle : b.erase ≡ Erase.Idle
   pub none : b.receiver.len ≡ 0

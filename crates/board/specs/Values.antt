@@ -1,10 +1,10 @@
 -- A board's value (docs/RULES.md, XB4): what a start and the calls leave in it, the bytes behind counts included.
-use Rattle.std.specs.Prelude.{Bool, cond, List, [], ◌∷◌, ◌≡◌, ℕ, ◌+◌, length}
+use Rattle.std.specs.Prelude.{Bool, cond, List, [], ◌∷◌, ◌≡◌, ℕ, ◌+◌, Result, IfOk}
 use Rattle.wire.specs.Refusal.{changes_nothing}
+use Rattle.wire.specs.declared.refusal.Refusal.{Refusal}
 use Rattle.receiver.specs.View.{empty_receiver, emptied, with_byte}
 use Rattle.receiver.specs.declared.Receiver.{Receiver}
-use Rattle.wire.specs.Digits.{padded}
-use Rattle.store.specs.declared.contents.ItemBytes.{ItemBytes}
+use Rattle.wire.specs.Digits.{octets}
 use Rattle.calls.specs.Board as calls
 use Rattle.calls.specs.Calls.{on_call, on_step, on_start}
 use Rattle.calls.specs.Lists.{Event, call, step, cut}
@@ -15,17 +15,17 @@ use Rattle.board.specs.Demand3.{Events}
 use Rattle.board.specs.View.{state_of, started_of, bare}
 use Rattle.board.specs.declared.board.Erase.{Erase}
 use Rattle.board.specs.declared.board.Board.{Board}
-use Rattle.board.specs.declared.board.Started.{Started}
 
 -- ---- the one fresh value of an identity
 
--- a serial number or a model: its bytes, zeros behind them to the sixteenth, and their count
-abbrev pub item_value : List ℕ → ItemBytes
-item_value t = record { bytes = padded t; count = length t }
-
 -- nothing held, and nothing of a past
 abbrev pub fresh_board : calls.Identity → Erase → Board
-fresh_board i e = record { id = i.id; serial = item_value i.serial; model = item_value i.model; receiver = empty_receiver; erase = e }
+fresh_board i e =
+    record {
+      identity = record { id = i.id; serial = octets i.serial; model = octets i.model };
+      receiver = empty_receiver;
+      erase = e;
+    }
 
 -- ---- a start
 
@@ -33,7 +33,7 @@ abbrev pub erase_from : calls.Erase Bool → Erase
 erase_from calls.idle = Erase.Idle
 erase_from (calls.pending place owed) = Erase.Pending place owed
 
--- what a refused start gives (ER5): ID 0, which no call takes
+-- what stands where a start was refused (ER5): ID 0, which no call takes
 abbrev pub no_board : Board
 no_board = fresh_board (record { id = 0; serial = []; model = [] }) Erase.Idle
 
@@ -47,18 +47,18 @@ store_started (calls.board s es) m = applied es m
 store_started (calls.start_refused n) m = m
 
 -- a start gave an outcome: a board or a refusal, the board's value, and its stores applied
-pub record Starts (r : Started) (m m' : List ℕ) (o : calls.Started BoardState) : Type 0 where
+pub record Starts (r : Result Board Refusal) (m m' : List ℕ) (o : calls.Started BoardState) : Type 0 where
   pub started : started_of r ≡ bare o
-  pub value : r.board ≡ start_leaves o
+  pub value : IfOk r (λ b. b ≡ start_leaves o)
   pub store : m' ≡ store_started o m
 
 -- ---- the calls
 
 abbrev pub with_receiver : Board → Receiver → Board
-with_receiver b r = record { id = b.id; serial = b.serial; model = b.model; receiver = r; erase = b.erase }
+with_receiver b r = record { identity = b.identity; receiver = r; erase = b.erase }
 
 abbrev pub with_erase : Board → Erase → Board
-with_erase b e = record { id = b.id; serial = b.serial; model = b.model; receiver = b.receiver; erase = e }
+with_erase b e = record { identity = b.identity; receiver = b.receiver; erase = e }
 
 -- A byte, by its answer. Where it begins an erase the board is the fresh one; with refusals 1 and 9 to 13 it is as it was; else the byte stands
 -- behind the held ones, and with every answer but waiting none is held any more. No byte answers more or ended.

@@ -1,8 +1,9 @@
 -- What the board's values in code mean, with the rules' number for each case (docs/RULES.md, CA1), and what a call gives. States show arrays
 -- through their counts; what else a call leaves in a board's value stands in Values.antt.
-use Rattle.std.specs.Prelude.{Bool, List, [], ◌≡◌, ℕ}
+use Rattle.std.specs.Prelude.{Bool, List, [], ◌≡◌, ℕ, Result as Returned, Ok, Err}
 use Rattle.std.proofs.Math.Option.{Option, none, some}
 use Rattle.wire.specs.Refusal.{number_of}
+use Rattle.wire.specs.declared.refusal.Refusal.{Refusal}
 use Rattle.plan.specs.Plans.{stores_of}
 use Rattle.receiver.specs.View.{held_of}
 use Rattle.calls.specs.Board as calls
@@ -13,8 +14,6 @@ use Rattle.board.specs.declared.board.Board.{Board}
 use Rattle.board.specs.declared.board.Answer.{Answer}
 use Rattle.board.specs.declared.board.Done.{Done}
 use Rattle.board.specs.declared.board.Planned.{Planned}
-use Rattle.board.specs.declared.board.Started.{Started}
-use Rattle.board.specs.declared.board.StartAnswer.{StartAnswer}
 
 -- ---- the board
 
@@ -24,7 +23,7 @@ erase_of (Erase.Pending place owed) = calls.pending place owed
 
 abbrev pub state_of : Board → BoardState
 state_of b =
-    record { ident = identity_of b.id b.serial b.model; held = held_of b.receiver; erase = erase_of b.erase }
+    record { ident = identity_of b.identity; held = held_of b.receiver; erase = erase_of b.erase }
 
 -- ---- a call's answer
 
@@ -81,12 +80,9 @@ pub record Plans (p : Planned) (lent' : List ℕ) (leaves : BoardOutcome → Boa
 abbrev pub given_identity : ℕ → List ℕ → List ℕ → calls.Identity
 given_identity id serial model = record { id = id; serial = serial; model = model }
 
-abbrev pub started_with : StartAnswer → Board → calls.Started BoardState
-started_with StartAnswer.Ready b = calls.board (state_of b) []
-started_with (StartAnswer.Refused r) b = calls.start_refused (number_of r)
-
-abbrev pub started_of : Started → calls.Started BoardState
-started_of s = started_with s.answer s.board
+abbrev pub started_of : Returned Board Refusal → calls.Started BoardState
+started_of (Ok b) = calls.board (state_of b) []
+started_of (Err r) = calls.start_refused (number_of r)
 
 -- a start but for what it stores
 abbrev pub bare : calls.Started BoardState → calls.Started BoardState
@@ -98,6 +94,6 @@ abbrev pub start_refusal_in : calls.Started BoardState → Option ℕ
 start_refusal_in (calls.board s es) = none
 start_refusal_in (calls.start_refused n) = some n
 
-abbrev pub start_refusal_of : StartAnswer → Option ℕ
-start_refusal_of StartAnswer.Ready = none
-start_refusal_of (StartAnswer.Refused r) = some (number_of r)
+abbrev pub start_refusal_of : Returned (Unit {0}) Refusal → Option ℕ
+start_refusal_of (Ok u) = none
+start_refusal_of (Err r) = some (number_of r)

@@ -1,4 +1,4 @@
--- Laws of a call's answer told as numbers: what a call that is not refused tells, and where nothing of a state is written.
+-- Laws of a call's answer told as numbers: which answers keep a state, and what C sees of a call.
 use Prim.Native.Nat.{ℕ, ◌≤◌}
 use mathlib.Core.Bool.{Bool, true, false, cond, ◌&&◌, ◌||◌}
 use mathlib.Core.List.{List, []}
@@ -17,41 +17,15 @@ use Rattle.board.specs.View.{state_of, answer_of, answer_kind, Result, Gives}
 use Rattle.board.specs.Values.{call_leaves, step_leaves}
 use Rattle.board.specs.Inner.{Sized}
 use Rattle.board.specs.declared.board.Answer.{Answer}
-use Rattle.board.proofs.Answers.{IsNoRefusal, IsNoReply}
 use Rattle.board.specs.declared.board.Board.{Board}
 use Rattle.board.specs.declared.board.Done.{Done}
 use Rattle.board.proofs.RefusalLaws.{Refused, unchanged, emptied, refused-by_check, call-refused, step-refused}
 use Rattle.board_c.specs.State.{board_in, state_bytes, state_in}
 use Rattle.board_c.specs.Exports.{refusal_as, length_as, keeps_all, Leaves, Answers}
-use Rattle.board_c.specs.Inner.{Places, Saves, AnswerTold}
+use Rattle.board_c.specs.Inner.{AnswerTold}
 use Rattle.board_c.proofs.Theorems.{board-back, other-size_refused}
 
 -- ---- answers by their places
-
-pub not_refused : (a : Answer) → IsNoRefusal a → false ≡ keeps_all (answer_of a)
-not_refused Answer.Waiting k = refl
-not_refused Answer.Silent k = refl
-not_refused Answer.Begun k = refl
-not_refused Answer.More k = refl
-not_refused Answer.Ended k = refl
-not_refused (Answer.Refused r) k = absurd (k r refl)
-not_refused (Answer.Reply n) k = refl
-
-pub neither_told : (a : Answer) (refusal size : ℕ) → IsNoRefusal a → IsNoReply a
-    → Places (answer_of a) refusal refusal size size
-neither_told Answer.Waiting refusal size k l = record { refused = refl; replied = refl }
-neither_told Answer.Silent refusal size k l = record { refused = refl; replied = refl }
-neither_told Answer.Begun refusal size k l = record { refused = refl; replied = refl }
-neither_told Answer.More refusal size k l = record { refused = refl; replied = refl }
-neither_told Answer.Ended refusal size k l = record { refused = refl; replied = refl }
-neither_told (Answer.Refused r) refusal size k l = absurd (k r refl)
-neither_told (Answer.Reply n) refusal size k l = absurd (l n refl)
-
-pub refusal-told : (a : Answer) (r : Refusal) (refusal n size : ℕ) → a ≡ Answer.Refused r → n ≡ number_of r → Places (answer_of a) refusal n size size
-refusal-told a r refusal n size q e = rw q (record { refused = e; replied = refl })
-
-pub reply-told : (a : Answer) (refusal n size : ℕ) → a ≡ Answer.Reply n → Places (answer_of a) refusal refusal size n
-reply-told a refusal n size q = rw q (record { refused = refl; replied = refl })
 
 pub refusal-kept : (a : Answer) (r : Refusal) (n : ℕ) → a ≡ Answer.Refused r → n ≡ number_of r → (eqb n 1 || leb 9 n) ≡ keeps_all (answer_of a)
 unfolding changes_nothing
@@ -100,18 +74,7 @@ sized-by s lent t o f k = go (eqb (length s) 111) refl
     go true e = eqb-true (length s) 111 e
     go false e = absurd (clash _ (ten_or_twelve t (state_in s) lent o (f (eqb-false (length s) 111 e))) k)
 
--- ---- what `tell`, `save` and `answered` give
-
-module _ (a : Answer) (b : Board) (s : List ℕ) (k : Bool) (asked : k ≡ keeps_all (answer_of a)) where
-  pub all-kept : k ≡ true → Saves (answer_of a) b s s
-  all-kept t =
-      record { kept = λ _. refl; bytes = λ f _. absurd (clash _ (sym asked ∙ t) f); shown = λ f _. absurd (clash _ (sym asked ∙ t) f) }
-
-  pub not_saved : (length s ≡ 111 → ⊥) → Saves (answer_of a) b s s
-  not_saved n = record { kept = λ _. refl; bytes = λ _ e. absurd (n e); shown = λ _ e. absurd (n e) }
-
-  pub saved : (s' : List ℕ) → k ≡ false → s' ≡ state_bytes b → state_in s' ≡ state_of b → Saves (answer_of a) b s s'
-  saved s' f e q = record { kept = λ t. absurd (clash _ t (sym asked ∙ f)); bytes = λ _ _. e; shown = λ _ _. q }
+-- ---- a state that is written
 
 pub state-put : (b : Board) (s : List ℕ) → s ≡ state_bytes b → Sized b → state_in s ≡ state_of b
 state-put b s e z = ap state_in e ∙ ap state_of (board-back b z.serial z.model z.held)

@@ -4,13 +4,14 @@ use mathlib.Core.Bool.{true, false}
 use mathlib.Core.List.{List, [], ◌∷◌, ◌++◌, map, append_assoc, append-nil}
 use mathlib.Core.Path.{◌≡◌, refl, sym, ap, ◌∙◌}
 use native.Mathlib.Omega.{arith}
-use lib.ListN.{length, get_or, set, take, drop, replicate, length-set, length-append, take-append-drop, length-take, length-drop, length-map, drop_of_length-le}
+use lib.ListN.{length, get_or, set, take, drop, length-append, take-append-drop, length-map, drop_of_length-le}
 use lib.Seq.{paste, length-take-le, take-take, take_at, drop_at, drop-drop, get_or-drop}
 use borrow.Author.Tests.{eq-eqb}
 use Rattle.wire.specs.Packet.{over}
 use Rattle.wire.proofs.PacketLaws.{over-paste, over-set}
-use Rattle.store.specs.declared.contents.ItemBytes.{ItemBytes}
-use Rattle.wire.proofs.CopyLaws.{copy_all}
+use Rattle.wire.specs.declared.digits.Octets.{Octets}
+use Rattle.actions.specs.declared.Identity.{Identity}
+use Rattle.receiver.specs.declared.Receiver.{Receiver}
 use Rattle.board.specs.declared.board.Board.{Board}
 use Rattle.calls.specs.Board.{place_of}
 use Rattle.board.specs.View.{erase_of}
@@ -53,71 +54,46 @@ behind-front o t r k h q =
 counted : (n : ℕ) (l : List ℕ) → length (map (λ (x : ℕ). x) l) ≡ n → length l ≡ n
 counted n l e = sym (length-map l (λ (x : ℕ). x)) ∙ e
 
-pub sized : (b : Board) → length (map (λ (x : ℕ). x) b.serial.bytes) ≡ 16 → length (map (λ (x : ℕ). x) b.model.bytes) ≡ 16
+pub sized : (b : Board) → length (map (λ (x : ℕ). x) b.identity.serial.bytes) ≡ 16 → length (map (λ (x : ℕ). x) b.identity.model.bytes) ≡ 16
     → length (map (λ (x : ℕ). x) b.receiver.held) ≡ 73 → Sized b
-sized b s m h = record { serial = counted 16 b.serial.bytes s; model = counted 16 b.model.bytes m; held = counted 73 b.receiver.held h }
+sized b s m h = record { serial = counted 16 b.identity.serial.bytes s; model = counted 16 b.identity.model.bytes m; held = counted 73 b.receiver.held h }
 
 -- ---- a board written
 
--- a buffer after a store and a call that keeps its length
-module _ (o s : List ℕ) (i b : ℕ) (kept : length s ≡ length (set o i b)) where
-  pub length-after : length s ≡ length o
-  length-after = kept ∙ simp length-set
+pub identity-put : (n : Identity) (o s r : List ℕ)
+    → s ≡ paste (set o 0 n.id) 1 (counted_item n.serial) (length (counted_item n.serial))
+    → r ≡ paste s 18 (counted_item n.model) (length (counted_item n.model))
+    → length o ≡ 111 → length n.serial.bytes ≡ 16 → r ≡ over (identity_part n) o
+identity-put n o s r q w size l =
+    let first = paste_over (n.id ∷ []) o 1 refl _ (counted_item n.serial) s (first_over o n.id (omega arith)) q in
+    paste_over (n.id ∷ counted_item n.serial) o 18 (omega arith) s (counted_item n.model) r first w
 
-  pub length-behind : (s' : List ℕ) → length s' ≡ length s → length s' ≡ length o
-  length-behind s' e = e ∙ length-after
-
-  pub room_after : (k n : ℕ) → length o ≡ n → k ≤ n → k ≤ length s
-  room_after k n size h = rw (length-after, size) h
-
-pub item_room : (o bytes : List ℕ) (at b : ℕ) → at + 17 ≤ length o → length bytes ≡ 16 → at + 1 + length bytes ≤ length (set o at b)
-item_room o bytes at b h l = simp length-set (omega arith)
-
-pub held-room : (o held : List ℕ) (b : ℕ) → length o ≡ 111 → length held ≡ 73 → 36 + length held ≤ length (set o 35 b)
-held-room o held b h l = simp length-set (omega arith)
-
-pub item_put : (t : ItemBytes) (o r : List ℕ) (at : ℕ) → r ≡ paste (set o at t.count) (at + 1) t.bytes (length t.bytes) → at + 17 ≤ length o
-    → r ≡ paste o at (counted_item t) (length (counted_item t))
-item_put t o r at q h =
-    let l : length (take at o) ≡ at = length-take-le at o (omega arith) in
-    let first = set-over (take at o) o at l o t.count (omega arith) (front_over o at (omega arith)) in
-    let counted : length (take at o ++ (t.count ∷ [])) ≡ at + 1 = rw (length-append, l) in
-    let all = paste_over (take at o ++ (t.count ∷ [])) o (at + 1) counted _ t.bytes r first q in
-    behind-front o (counted_item t) r at (omega arith) (all ∙ rw (append_assoc (take at o) (t.count ∷ []) t.bytes))
-
-pub identity-put : (id : ℕ) (serial model : ItemBytes) (o s r : List ℕ)
-    → s ≡ paste (set o 0 id) 1 (counted_item serial) (length (counted_item serial)) → r ≡ paste s 18 (counted_item model) (length (counted_item model))
-    → length o ≡ 111 → length serial.bytes ≡ 16 → r ≡ over (identity_part id serial model) o
-identity-put id serial model o s r q w size l =
-    let first = paste_over (id ∷ []) o 1 refl _ (counted_item serial) s (first_over o id (omega arith)) q in
-    paste_over (id ∷ counted_item serial) o 18 (omega arith) s (counted_item model) r first w
-
-pub progress_put : (len : ℕ) (held : List ℕ) (erase : Erase) (kind place : ℕ) (o s : List ℕ)
-    → s ≡ paste (set o 35 len) 36 held (length held) → kind ≡ erase_kind erase → place ≡ place_of (erase_of erase) → length o ≡ 111 → length held ≡ 73
-    → set (set s 109 kind) 110 place ≡ paste o 35 (progress_part len held erase) (length (progress_part len held erase))
-progress_put len held erase kind place o s q ek ep size l =
+pub progress_put : (v : Receiver) (erase : Erase) (kind place : ℕ) (o s : List ℕ)
+    → s ≡ paste (set o 35 v.len) 36 v.held (length v.held) → kind ≡ erase_kind erase → place ≡ place_of (erase_of erase) → length o ≡ 111 → length v.held ≡ 73
+    → set (set s 109 kind) 110 place ≡ paste o 35 (progress_part v erase) (length (progress_part v erase))
+progress_put v erase kind place o s q ek ep size l =
     let front = take 35 o in
     let end : length front ≡ 35 = length-take-le 35 o (omega arith) in
-    let to_len = front ++ (len ∷ []) in
+    let to_len = front ++ (v.len ∷ []) in
     let len-end : length to_len ≡ 36 = simp length-append (omega arith) in
-    let to_held = to_len ++ held in
+    let to_held = to_len ++ v.held in
     let held-end : length to_held ≡ 109 = simp length-append (omega arith) in
     let to-kind = to_held ++ (kind ∷ []) in
     let kind-end : length to-kind ≡ 110 = simp length-append (omega arith) in
-    let len-over = set-over front o 35 end o len (omega arith) (front_over o 35 (omega arith)) in
-    let held-over = paste_over to_len o 36 len-end _ held s len-over q in
+    let len-over = set-over front o 35 end o v.len (omega arith) (front_over o 35 (omega arith)) in
+    let held-over = paste_over to_len o 36 len-end _ v.held s len-over q in
     let kind-over = set-over to_held o 109 held-end s kind (omega arith) held-over in
     let place-over = set-over to-kind o 110 kind-end _ place (omega arith) kind-over in
-    let parts : to-kind ++ (place ∷ []) ≡ front ++ progress_part len held erase = simp append_assoc (rw (ek, ep)) in
-    behind-front o (progress_part len held erase) _ 35 (omega arith) (place-over ∙ rw parts)
+    let parts : to-kind ++ (place ∷ []) ≡ front ++ progress_part v erase = simp append_assoc (rw (ek, ep)) in
+    behind-front o (progress_part v erase) _ 35 (omega arith) (place-over ∙ rw parts)
 
-pub board-put : (b : Board) (o s r : List ℕ) → s ≡ over (identity_part b.id b.serial b.model) o
-    → r ≡ paste s 35 (progress_part b.receiver.len b.receiver.held b.erase) (length (progress_part b.receiver.len b.receiver.held b.erase)) → length o ≡ 111
+pub board-put : (b : Board) (o s r : List ℕ) → s ≡ over (identity_part b.identity) o
+    → r ≡ paste s 35 (progress_part b.receiver b.erase) (length (progress_part b.receiver b.erase)) → length o ≡ 111
     → Sized b → r ≡ state_bytes b
 unfolding state_bytes
 board-put b o s r q w size z =
-    let front = identity_part b.id b.serial b.model in
-    let rest = progress_part b.receiver.len b.receiver.held b.erase in
+    let front = identity_part b.identity in
+    let rest = progress_part b.receiver b.erase in
     let end : length front ≡ 35 = simp length-append (omega (arith, z.serial, z.model)) in
     let all : length (front ++ rest) ≡ length o = simp length-append (omega (arith, z.serial, z.model, z.held)) in
     paste_over front o 35 end s rest r q w ∙ over-all (front ++ rest) o all ∙ simp append_assoc
@@ -128,21 +104,13 @@ text-first : (s : List ℕ) → item_in (take 17 s) ≡ item_in s
 text-first [] = refl
 text-first (b ∷ bs) = rw (take-take 16 16 bs (omega arith))
 
-pub item_read_lem : (s bytes : List ℕ) → bytes ≡ paste (replicate 16 0) 0 (take 16 (drop 1 s)) (length (take 16 (drop 1 s))) → length s ≡ 17
-    → record { bytes = bytes; count = get_or s 0 0 } ≡ item_in s
-item_read_lem s bytes e size =
-    let l : length (take 16 (drop 1 s)) ≡ 16 = simp (length-take, length-drop) (omega arith) in
-    rw (e ∙ copy_all (replicate 16 0) (take 16 (drop 1 s)) (sym l))
-
-pub board-read : (s : List ℕ) (serial model : ItemBytes) (h : List ℕ) (e : Erase) → length s ≡ 111
+pub board-read : (s : List ℕ) (serial model : Octets) (h : List ℕ) (e : Erase) → length s ≡ 111
     → serial ≡ item_in (take 17 (drop 1 s)) → model ≡ item_in (take 17 (drop 18 s))
-    → h ≡ paste (replicate 73 0) 0 (take 73 (drop 36 s)) (length (take 73 (drop 36 s))) → e ≡ erase_in (get_or s 109 0) (get_or s 110 0)
-    → record { id = get_or s 0 0; serial = serial; model = model; receiver = record { held = h; len = get_or s 35 0 }; erase = e } ≡ board_in s
+    → h ≡ take 73 (drop 36 s) → e ≡ erase_in (get_or s 109 0) (get_or s 110 0)
+    → record { identity = record { id = get_or s 0 0; serial = serial; model = model }; receiver = record { held = h; len = get_or s 35 0 }; erase = e }
+    ≡ board_in s
 unfolding board_in
-board-read s serial model h e size qs qm qh qe =
-    let l : length (take 73 (drop 36 s)) ≡ 73 = simp (length-take, length-drop) (omega arith) in
-    let held : h ≡ take 73 (drop 36 s) = qh ∙ copy_all (replicate 73 0) (take 73 (drop 36 s)) (sym l) in
-    rw (eq-eqb (length s) 111 size, qs, qm, text-first (drop 1 s), text-first (drop 18 s), held, qe)
+board-read s serial model h e size qs qm qh qe = rw (eq-eqb (length s) 111 size, qs, qm, text-first (drop 1 s), text-first (drop 18 s), qh, qe)
 
 -- ---- what was written is read
 
@@ -152,7 +120,7 @@ erase-back Erase.Idle = refl
 erase-back (Erase.Pending place false) = refl
 erase-back (Erase.Pending place true) = refl
 
-text-back : (t : ItemBytes) (s : List ℕ) → length t.bytes ≡ 16 → item_in (counted_item t ++ s) ≡ t
+text-back : (t : Octets) (s : List ℕ) → length t.bytes ≡ 16 → item_in (counted_item t ++ s) ≡ t
 text-back t s e = rw (take_at t.bytes s 16 e)
 
 module _ (b : Board) (z : Sized b) where
@@ -163,7 +131,7 @@ module _ (b : Board) (z : Sized b) where
   from-len = b.receiver.len ∷ (b.receiver.held ++ erase-bytes)
 
   abbrev from-model : List ℕ
-  from-model = counted_item b.model ++ from-len
+  from-model = counted_item b.identity.model ++ from-len
 
   pub size_of : length (state_bytes b) ≡ 111
   unfolding state_bytes
@@ -171,10 +139,10 @@ module _ (b : Board) (z : Sized b) where
 
   at-model : drop 18 (state_bytes b) ≡ from-model
   unfolding state_bytes
-  at-model = drop_at b.serial.bytes from-model 16 z.serial
+  at-model = drop_at b.identity.serial.bytes from-model 16 z.serial
 
   at_len : drop 35 (state_bytes b) ≡ from-len
-  at_len = sym (drop-drop 17 18 (state_bytes b)) ∙ ap (drop 17) at-model ∙ drop_at b.model.bytes from-len 16 z.model
+  at_len = sym (drop-drop 17 18 (state_bytes b)) ∙ ap (drop 17) at-model ∙ drop_at b.identity.model.bytes from-len 16 z.model
 
   at_held : drop 36 (state_bytes b) ≡ b.receiver.held ++ erase-bytes
   at_held = sym (drop-drop 1 35 (state_bytes b)) ∙ ap (drop 1) at_len
@@ -188,8 +156,8 @@ module _ (b : Board) (z : Sized b) where
   pub back : board_in (state_bytes b) ≡ b
   unfolding board_in state_bytes
   back =
-      let serial : item_in (drop 1 (state_bytes b)) ≡ b.serial = text-back b.serial from-model z.serial in
-      let model : item_in (drop 18 (state_bytes b)) ≡ b.model = ap item_in at-model ∙ text-back b.model from-len z.model in
+      let serial : item_in (drop 1 (state_bytes b)) ≡ b.identity.serial = text-back b.identity.serial from-model z.serial in
+      let model : item_in (drop 18 (state_bytes b)) ≡ b.identity.model = ap item_in at-model ∙ text-back b.identity.model from-len z.model in
       let held : take 73 (drop 36 (state_bytes b)) ≡ b.receiver.held = ap (take 73) at_held ∙ take_at b.receiver.held erase-bytes 73 z.held in
       let len : get_or (state_bytes b) 35 0 ≡ b.receiver.len = at_place 35 from-len at_len 0 in
       let kind : get_or (state_bytes b) 109 0 ≡ erase_kind b.erase = at_place 109 erase-bytes at_erase 0 in
@@ -197,4 +165,4 @@ module _ (b : Board) (z : Sized b) where
       let pending : erase_in (get_or (state_bytes b) 109 0) (get_or (state_bytes b) 110 0) ≡ b.erase =
       (λ j. erase_in (kind j) (place j)) ∙ erase-back b.erase in
       rw (eq-eqb (length (state_bytes b)) 111 size_of)
-      (λ j. record { id = b.id; serial = serial j; model = model j; receiver = record { held = held j; len = len j }; erase = pending j })
+      (λ j. record { identity = record { id = b.identity.id; serial = serial j; model = model j }; receiver = record { held = held j; len = len j }; erase = pending j })

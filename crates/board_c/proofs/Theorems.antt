@@ -15,7 +15,7 @@ use Rattle.board.proofs.StartLaws.{no_id, unnamed_call_refused, unnamed_step_ref
 use Rattle.board_c.specs.State.{board_in, state_bytes, state_in}
 use Rattle.board_c.proofs.StateLaws.{back}
 
-pub board-back : (b : Board) → length b.serial.bytes ≡ 16 → length b.model.bytes ≡ 16 → length b.receiver.held ≡ 73 → board_in (state_bytes b) ≡ b
+pub board-back : (b : Board) → length b.identity.serial.bytes ≡ 16 → length b.identity.model.bytes ≡ 16 → length b.receiver.held ≡ 73 → board_in (state_bytes b) ≡ b
 board-back b serial model held = back b (record { serial = serial; model = model; held = held })
 
 -- ---- a buffer of another size

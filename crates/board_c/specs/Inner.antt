@@ -1,6 +1,7 @@
 -- What inner functions give. No contract of an entry point cites it.
 use Rattle.std.specs.Prelude.{true, false, List, [], ◌∷◌, ◌++◌, ◌≡◌, ℕ, length}
-use Rattle.store.specs.declared.contents.ItemBytes.{ItemBytes}
+use Rattle.actions.specs.declared.Identity.{Identity}
+use Rattle.receiver.specs.declared.Receiver.{Receiver}
 use Rattle.calls.specs.Board.{Answer, place_of}
 use Rattle.board.specs.View.{erase_of, state_of, answer_of, answer_kind}
 use Rattle.board.specs.declared.board.Board.{Board}
@@ -12,12 +13,12 @@ use Rattle.board_c.specs.Exports.{refusal_as, length_as, keeps_all}
 -- ---- the two parts of a state's bytes
 
 -- the first 35: ID, serial number and model
-abbrev pub identity_part : ℕ → ItemBytes → ItemBytes → List ℕ
-identity_part id serial model = id ∷ (counted_item serial ++ counted_item model)
+abbrev pub identity_part : Identity → List ℕ
+identity_part n = n.id ∷ (counted_item n.serial ++ counted_item n.model)
 
 -- the other 76: the held bytes behind their count, and the erase
-abbrev pub progress_part : ℕ → List ℕ → Erase → List ℕ
-progress_part len held erase = len ∷ (held ++ (erase_kind erase ∷ place_of (erase_of erase) ∷ []))
+abbrev pub progress_part : Receiver → Erase → List ℕ
+progress_part r erase = r.len ∷ (r.held ++ (erase_kind erase ∷ place_of (erase_of erase) ∷ []))
 
 -- ---- an answer told
 

@@ -12,8 +12,8 @@ ghost use Rattle.board_c.specs.Inner.{Places, Saves, AnswerTold};
 
 use crate::state;
 use board::board as on_board;
-use board::board::{Answer, Board, Done, StartAnswer};
-use wire::digits;
+use board::board::{Answer, Board, Done};
+use wire::refusal::Refusal;
 
 #[unsafe(no_mangle)]
 pub extern "C" fn board_start(
@@ -25,17 +25,19 @@ pub extern "C" fn board_start(
 ) -> u8
     ensures { Starts (start_in (length state.old) (on_start board_kind (given_identity id serial.now model.now) store.old)) result state.old state.new store.old store.new }
 {
-    let answer = on_board::start_answer(store, id, serial, model);
-    if let StartAnswer::Refused(refusal) = answer {
-        return refusal.number();
-    }
     if state.len() != state::SIZE {
-        return 12;
+        return match on_board::start_answer(store, id, serial, model) {
+            Ok(()) => Refusal::Unsound.number(),
+            Err(refusal) => refusal.number(),
+        };
     }
-    let started = on_board::start(store, id, serial, model);
-    let next = started.board;
-    put_state(next, state);
-    0
+    match on_board::start(store, id, serial, model) {
+        Ok(board) => {
+            put_state(board, state);
+            0
+        }
+        Err(refusal) => refusal.number(),
+    }
 }
 
 #[unsafe(no_mangle)]
@@ -77,15 +79,15 @@ pub extern "C" fn board_step(
 }
 
 // Fills a store with the bytes of an unused board.
+#[tactic(auto, unfolding(crate::specs::Exports::unused_result, crate::specs::Exports::unused_in))]
 #[unsafe(no_mangle)]
 pub extern "C" fn board_unused(store: &mut [u8]) -> u8
     ensures { (result ≡ unused_result (length store.old)) × (store.new ≡ unused_in store.old) }
 {
     if store.len() != 128 {
-        return 11;
+        return Refusal::NotAStore.number();
     }
-    let unused = layouts::unused();
-    digits::put_bytes(store, 0, &unused);
+    store.copy_from_slice(&layouts::unused());
     0
 }
 
@@ -93,11 +95,9 @@ pub extern "C" fn board_unused(store: &mut [u8]) -> u8
 fn answered(done: Done, state: &mut [u8], size: &mut usize, refusal: &mut u8) -> u8
     ensures { AnswerTold done result refusal.old refusal.new size.old size.new state.old state.new }
 {
-    let answer = done.answer;
-    let next = done.board;
-    save(answer, next, state);
-    tell(answer, size, refusal);
-    answer.kind()
+    save(done.answer, done.board, state);
+    tell(done.answer, size, refusal);
+    done.answer.kind()
 }
 
 // Refusals 1 and 9 to 13 change nothing at all.
@@ -136,11 +136,9 @@ fn put_state(board: Board, state: &mut [u8])
 fn tell(answer: Answer, size: &mut usize, refusal: &mut u8)
     ensures { Places (answer_of answer) refusal.old refusal.new size.old size.new }
 {
-    if let Answer::Refused(why) = answer {
-        *refusal = why.number();
-        return;
-    }
-    if let Answer::Reply(n) = answer {
-        *size = n;
+    match answer {
+        Answer::Refused(why) => *refusal = why.number(),
+        Answer::Reply(n) => *size = n,
+        _ => {}
     }
 }

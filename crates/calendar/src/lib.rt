@@ -7,17 +7,19 @@ ghost use Rattle.calendar.specs.Calendar.{is_leap, days_in, is_day, before_year,
 use messages::message::Date;
 
 // Whether a date write accepts a date.
+#[tactic(auto, unfolding(crate::specs::Calendar::is_accepted))]
 pub fn is_accepted(date: Date) -> bool
     ensures { result ≡ is_accepted date }
 {
-    if !is_day(date.year, date.month, date.day) {
-        return false;
-    }
-    let weekday = weekday_of(date.year, date.month, date.day);
-    (date.weekday == weekday) & (date.hour <= 23) & (date.minute <= 59) & (date.daylight == 0)
+    is_day(date.year, date.month, date.day)
+        && date.weekday == weekday_of(date.year, date.month, date.day)
+        && date.hour <= 23
+        && date.minute <= 59
+        && date.daylight == 0
 }
 
 // Whether there is such a day from 2000 to 2099.
+#[tactic(auto, unfolding(crate::specs::Calendar::is_day))]
 pub fn is_day(year: u8, month: u8, day: u8) -> bool
     ensures { result ≡ is_day year month day }
 {
@@ -41,23 +43,18 @@ fn is_leap(year: u8) -> bool
     year % 4 == 0
 }
 
-// How many days a month has; none where the number is no month's.
+// How many days a month has; none where the number is no month's, as in the definition.
+#[tactic(auto, unfolding(crate::specs::Calendar::days_in))]
 fn days_in(year: u8, month: u8) -> u8
     ensures { result ≡ days_in year month }
 {
-    if month == 2 {
-        if is_leap(year) {
-            return 29;
-        }
-        return 28;
+    match month {
+        2 if is_leap(year) => 29,
+        2 => 28,
+        4 | 6 | 9 | 11 => 30,
+        1 | 3 | 5 | 7 | 8 | 10 | 12 => 31,
+        _ => 0,
     }
-    if (month == 4) | (month == 6) | (month == 9) | (month == 11) {
-        return 30;
-    }
-    if (1 <= month) & (month <= 12) {
-        return 31;
-    }
-    0
 }
 
 // How many days there are before a year, one in four having 366.

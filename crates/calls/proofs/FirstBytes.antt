@@ -8,6 +8,9 @@ use lib.ListN.{length, get_or, set, take, length-set}
 use lib.Seq.{take-suc, take-set-le, drop-append-le, get_or-set_same, take-length, length-take-le}
 use lib.Dec.{eqb}
 use borrow.Author.Tests.{eq-eqb, eqb-true}
+use Rattle.std.proofs.Common.{drop, ◌+◌, ◌-◌}
+use Rattle.std.specs.Cmp.Lexicographic.{pointwise}
+use Rattle.std.proofs.lemmas.List.{drop-take}
 use Rattle.calls.specs.Calls.{first_bytes, same}
 
 pub same_refl : (l : List ℕ) → same l l ≡ true
@@ -23,6 +26,25 @@ same-eq (x ∷ xs) [] e = cc
 same-eq (x ∷ xs) (y ∷ ys) e =
     let h : (eqb x y ≡ true) × (same xs ys ≡ true) = (and-eq-true_iff (eqb x y) (same xs ys)).0 e in
     cc (eqb-true x y h.0, same-eq xs ys h.1)
+
+-- what the code's == on slices says
+same_is : (l r : List ℕ) → same l r ≡ pointwise eqb l r
+unfolding same
+same_is [] [] = refl
+same_is [] (y ∷ ys) = refl
+same_is (x ∷ xs) [] = refl
+same_is (x ∷ xs) (y ∷ ys) = rw (same_is xs ys)
+
+-- the slice of bytes 1 to p - 1
+first_is : (p : ℕ) (l : List ℕ) → 1 ≤ p → first_bytes p l ≡ take (p - 1) (drop 1 l)
+unfolding first_bytes
+first_is p l h =
+    let e : p ≡ 1 + (p - 1) = omega arith in
+    ap (λ (k : ℕ). drop 1 (take k l)) e ∙ drop-take 1 (p - 1) l
+
+pub cleared_is : (p : ℕ) (m u : List ℕ) → 1 ≤ p
+    → same (first_bytes p m) (first_bytes p u) ≡ pointwise eqb (take (p - 1) (drop 1 m)) (take (p - 1) (drop 1 u))
+cleared_is p m u h = same_is (first_bytes p m) (first_bytes p u) ∙ rw (first_is p m, first_is p u)
 
 first_none : (l : List ℕ) → first_bytes 1 l ≡ []
 unfolding first_bytes

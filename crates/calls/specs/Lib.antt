@@ -3,4 +3,3 @@ pub mod Kind
 pub mod Calls
 pub mod Lists
 pub mod View
-pub mod Inner

@@ -1,84 +1,97 @@
 // Edges of the calendar: days that their months have and lack, weekdays, and a stored day that its month lacks.
-use crate::{say, say_number, show, show_lines, show_started};
+use crate::{show, show_lines, show_started};
 use wire::{digits, packet};
 
-// All of them.
-pub fn all(rt: &impl Print) {
-    februaries(rt);
-    months(rt);
-    weekdays(rt);
-    stored(rt);
-}
+// The numbers of a date: the year from 2000 on, the month, the day and the weekday.
+type Date = [u8; 4];
 
 // The end of February in years that divide by 4 and in one that does not.
-fn februaries(rt: &impl Print) {
-    write(rt, 0, 2, 29, 2);
-    write(rt, 0, 2, 30, 3);
-    write(rt, 1, 2, 28, 3);
-    write(rt, 1, 2, 29, 4);
-    write(rt, 96, 2, 29, 3);
-    write(rt, 96, 2, 30, 4);
+fn februaries() -> [Date; 6] {
+    [
+        [0, 2, 29, 2],
+        [0, 2, 30, 3],
+        [1, 2, 28, 3],
+        [1, 2, 29, 4],
+        [96, 2, 29, 3],
+        [96, 2, 30, 4],
+    ]
 }
 
 // The 30th and the 31st of each month of 2001, with the weekdays that follow on that of the day before.
-fn months(rt: &impl Print) {
-    write(rt, 1, 1, 30, 2);
-    write(rt, 1, 1, 31, 3);
-    write(rt, 1, 2, 30, 5);
-    write(rt, 1, 2, 31, 6);
-    write(rt, 1, 3, 30, 5);
-    write(rt, 1, 3, 31, 6);
-    write(rt, 1, 4, 30, 1);
-    write(rt, 1, 4, 31, 2);
-    write(rt, 1, 5, 30, 3);
-    write(rt, 1, 5, 31, 4);
-    write(rt, 1, 6, 30, 6);
-    write(rt, 1, 6, 31, 0);
-    write(rt, 1, 7, 30, 1);
-    write(rt, 1, 7, 31, 2);
-    write(rt, 1, 8, 30, 4);
-    write(rt, 1, 8, 31, 5);
-    write(rt, 1, 9, 30, 0);
-    write(rt, 1, 9, 31, 1);
-    write(rt, 1, 10, 30, 2);
-    write(rt, 1, 10, 31, 3);
-    write(rt, 1, 11, 30, 5);
-    write(rt, 1, 11, 31, 6);
-    write(rt, 1, 12, 30, 0);
-    write(rt, 1, 12, 31, 1);
+fn months() -> [Date; 24] {
+    [
+        [1, 1, 30, 2],
+        [1, 1, 31, 3],
+        [1, 2, 30, 5],
+        [1, 2, 31, 6],
+        [1, 3, 30, 5],
+        [1, 3, 31, 6],
+        [1, 4, 30, 1],
+        [1, 4, 31, 2],
+        [1, 5, 30, 3],
+        [1, 5, 31, 4],
+        [1, 6, 30, 6],
+        [1, 6, 31, 0],
+        [1, 7, 30, 1],
+        [1, 7, 31, 2],
+        [1, 8, 30, 4],
+        [1, 8, 31, 5],
+        [1, 9, 30, 0],
+        [1, 9, 31, 1],
+        [1, 10, 30, 2],
+        [1, 10, 31, 3],
+        [1, 11, 30, 5],
+        [1, 11, 31, 6],
+        [1, 12, 30, 0],
+        [1, 12, 31, 1],
+    ]
 }
 
 // The first day and the last, with their weekdays and with others; the days before and after them.
-fn weekdays(rt: &impl Print) {
-    write(rt, 0, 1, 1, 6);
-    write(rt, 0, 1, 1, 5);
-    write(rt, 0, 1, 1, 0);
-    write(rt, 0, 1, 1, 7);
-    write(rt, 0, 1, 0, 5);
-    write(rt, 99, 12, 31, 4);
-    write(rt, 99, 12, 31, 5);
-    write(rt, 99, 12, 32, 5);
-    write(rt, 99, 13, 1, 5);
-    write(rt, 100, 1, 1, 5);
+fn weekdays() -> [Date; 10] {
+    [
+        [0, 1, 1, 6],
+        [0, 1, 1, 5],
+        [0, 1, 1, 0],
+        [0, 1, 1, 7],
+        [0, 1, 0, 5],
+        [99, 12, 31, 4],
+        [99, 12, 31, 5],
+        [99, 12, 32, 5],
+        [99, 13, 1, 5],
+        [100, 1, 1, 5],
+    ]
+}
+
+// All of them.
+pub fn all(rt: &impl Print) {
+    write_all(rt, &februaries());
+    write_all(rt, &months());
+    write_all(rt, &weekdays());
+    stored(rt);
+}
+
+// Writes each date, as `write` writes it.
+fn write_all(rt: &impl Print, dates: &[Date]) {
+    for date in dates {
+        write(rt, *date);
+    }
 }
 
 // Writes a date, and what an unused board answers to its date write at 00:00.
-fn write(rt: &impl Print, year: u8, month: u8, day: u8, weekday: u8) {
-    say(rt, b"day ");
-    say_number(rt, 2000 + year as u64);
-    say(rt, b"-");
-    say_number(rt, month as u64);
-    say(rt, b"-");
-    say_number(rt, day as u64);
-    say(rt, b", weekday ");
-    say_number(rt, weekday as u64);
-    let date = [year, month, day, weekday, 0, 0, 0];
+fn write(rt: &impl Print, date: Date) {
+    let [year, month, day, weekday] = date;
+    let _ = print!(rt;
+        "day {}-{month}-{day}, weekday {weekday}",
+        2000 + u16::from(year)
+    );
+    let sent = [year, month, day, weekday, 0, 0, 0];
     let mut text = [0u8; 18];
     digits::put_bytes(&mut text, 0, b"C212");
-    digits::put_hex(&mut text, 4, &date);
+    digits::put_hex(&mut text, 4, &sent);
     let mut bytes = [0u8; 29];
     packet::put_packet(&mut bytes, 0x41, 0x30, 0x41, &text);
-    show(rt, b"\n", 1, &bytes);
+    show(rt, "", 1, &bytes);
 }
 
 // A start on a store with Thursday 31 February 2000, 12:30, as an earlier board took it: the date is read, a Set is accepted, the same date is refused,
@@ -91,11 +104,10 @@ fn stored(rt: &impl Print) {
     store[8] = 0x7E;
     store[9] = 0x31;
     store[10] = 0xE0;
-    say(rt, b"stored day 2000-2-31\n");
+    let _ = rt.println("stored day 2000-2-31");
     let started = board::board::start(&mut store, 1, b"", b"");
-    let answer = started.answer;
-    show_started(rt, answer);
-    let board = started.board;
+    show_started(rt, started);
+    let board = started.unwrap_or(board::board::no_board());
     show_lines(
         rt,
         board,

@@ -3,7 +3,6 @@ use mathlib.Core.Path.{◌≡◌, refl, ap, sym, ◌∙◌}
 use mathlib.Core.Bool.{true}
 use mathlib.Core.List.{List, [], ◌∷◌, ◌++◌, append-nil}
 use mathlib.Core.Logic.{inl, inr}
-use mathlib.Core.Option.{bind}
 use Prim.Native.Nat.{ℕ, ◌+◌, ◌-◌, ◌≤◌}
 use native.Mathlib.Omega.{arith}
 use borrow.Author.Tests.{le-ltb}
@@ -137,7 +136,7 @@ a and b = (a, b)
 pub examples-hold : AllHold examples.examples
 unfolding AllHold request_type request_text packet packet_with xor_from packet_text size two_at four_at value_of
     is_sound is_sound_as is_identity mark in_range fields_in_range first_in_range unused_store is_proper_beginning get_field bit bit_of
-    request_in get_in set_in command_in begins_with is_name bind effect_of get_effect set_effect power_read_effect power_control_effect power_control_in setting_at current is_on field_stores put_field set_bit with_bit
+    request_in get_in set_in command_in begins_with is_name effect_of get_effect set_effect power_read_effect power_control_effect power_control_in setting_at current is_on field_stores put_field set_bit with_bit
     reply_with reply_type reply_text parameter_text
 examples-hold =
     let fifty = set unused_bytes 1 0x64 in
@@ -212,7 +211,7 @@ small_ten = (inl refl, (inr (omega arith, omega arith, refl), tt))
 pub row_examples-hold : AllHold examples.row_examples
 unfolding AllHold request_type request_text packet packet_with xor_from packet_text size two_at four_at value_of
     is_sound is_sound_as is_identity mark in_range fields_in_range first_in_range unused_store is_proper_beginning get_field bit bit_of
-    request_in get_in set_in command_in begins_with is_name bind effect_of get_effect set_effect power_read_effect power_control_effect power_control_in setting_at current is_on field_stores put_field set_bit with_bit
+    request_in get_in set_in command_in begins_with is_name effect_of get_effect set_effect power_read_effect power_control_effect power_control_in setting_at current is_on field_stores put_field set_bit with_bit
     reply_with reply_type reply_text parameter_text
     date_of date_write_effect is_accepted is_day days_in weekday_of before_year before_month date_stores with_date tag_of former_tag_of tag_stores padded with_lengths date_in octets_in unhex hex_of date_text
     schedule_read_in schedule_enable_in numbers_in schedule_effect schedule_write_effect schedule_enable_effect program.is_accepted are_zero program_stores schedule_reply_text

@@ -3,6 +3,7 @@ use mathlib.Core.Path.{◌≡◌, refl, sym, ap, ◌∙◌}
 use mathlib.Core.Bool.{Bool, true, false, cond}
 use mathlib.Core.List.{List, [], ◌∷◌, ◌++◌}
 use mathlib.Core.Logic.{◌⊎◌, inl, inr, ⊎_elim, ◌≢◌}
+use Rattle.std.proofs.Common.{Some}
 use Prim.Native.Nat.{ℕ, ◌+◌, ◌≤◌, ◌<◌}
 use native.Mathlib.Omega.{arith}
 use lib.Dec.{eqb}
@@ -130,37 +131,6 @@ converted-current m size is fits = go (layout_mark_lem (get_or m 0 0) is)
 
 -- ---- what is due
 
-due-fits : (m : List ℕ) → fits_layout m ≡ true → due_in m ≡ length (conversion m)
+pub due-fits : (m : List ℕ) → fits_layout m ≡ true → due_in m ≡ Some (length (conversion m))
 unfolding due_in
 due-fits m f = rw f
-
-due-none : (m : List ℕ) → fits_layout m ≡ false → due_in m ≡ 255
-unfolding due_in
-due-none m f = rw f
-
-few-due : (m : List ℕ) → length (conversion m) ≤ 36
-few-due m = conversion-by (λ (es : List Entry). length es ≤ 36) m (omega arith) (omega arith)
-
-pub due-out : (m : List ℕ) → due_in m ≡ 255 → fits_layout m ≡ false
-due-out m e = go (fits_layout m) refl
-  where
-    go : (t : Bool) → fits_layout m ≡ t → fits_layout m ≡ false
-    go true f = absurd (omega (arith, few-due m, sym (due-fits m f) ∙ e))
-    go false f = f
-
-pub due_in_lem : (m : List ℕ) → (due_in m ≡ 255 → ⊥) → fits_layout m ≡ true
-due_in_lem m n = go (fits_layout m) refl
-  where
-    go : (t : Bool) → fits_layout m ≡ t → fits_layout m ≡ true
-    go true f = f
-    go false f = absurd (n (due-none m f))
-
--- with the mark of this layout nothing is due where all is in range
-pub due-own : (m : List ℕ) → get_or m 0 0 ≡ layout_mark → eqb (due_in m) 0 ≡ in_range m
-due-own m e = sym (go (in_range m) refl)
-  where
-    go : (t : Bool) → in_range m ≡ t → in_range m ≡ eqb (due_in m) 0
-    go true r =
-        let none : conversion m ≡ [] = conversion-none m (λ q. omega arith) in
-        r ∙ sym (rw (due-fits m (fits-own m e ∙ r), none))
-    go false r = r ∙ sym (rw (due-none m (fits-own m e ∙ r)))

@@ -15,9 +15,6 @@ pub const LAYOUT_MARK: u8 = 0x01;
 
 pub const OLDER_MARK: u8 = 0x00;
 
-// What `due` says of a store out of range.
-pub const OUT_OF_RANGE: u8 = 255;
-
 // Where the programs begin.
 const PROGRAMS: u8 = programs::FIRST_BYTE as u8;
 
@@ -25,17 +22,11 @@ const PROGRAMS: u8 = programs::FIRST_BYTE as u8;
 pub fn unused() -> [u8; 128]
     ensures { result ≡ unused_store }
 {
-    let mut store = [0u8; 128];
-    store[0] = LAYOUT_MARK;
-    store[1] = 0x8C;
-    store[2] = 0x3C;
-    store[3] = 0xC9;
-    store[4] = 0x91;
-    store[5] = 0x4A;
-    store[6] = 0x0C;
-    store[8] = 0x87;
+    let head = [LAYOUT_MARK, 0x8C, 0x3C, 0xC9, 0x91, 0x4A, 0x0C, 0x00, 0x87];
     let programs = programs::unused();
-    wire::digits::put_bytes(&mut store, programs::FIRST_BYTE, &programs);
+    let mut store = [0u8; 128];
+    store[..head.len()].copy_from_slice(&head);
+    store[programs::FIRST_BYTE..programs::FIRST_BYTE + programs.len()].copy_from_slice(&programs);
     store
 }
 
@@ -46,26 +37,27 @@ pub fn is_layout(mark: u8) -> bool
     (mark == OLDER_MARK) | (mark == LAYOUT_MARK)
 }
 
-// How many bytes a start on a store stores: none where it is of this layout, 36 where it is an older one, and OUT_OF_RANGE where what its layout has is
-// not in range.
-pub fn due(store: &[u8]) -> u8
+// How many bytes a start on a store stores: none where it is of this layout, and 36 where it is an older one. `None` where what its layout has is not in
+// range.
+#[tactic(auto, unfolding(crate::specs::Inner::due_in, crate::specs::Layouts::fits_layout, crate::specs::Layouts::in_range, crate::specs::Layouts::conversion))]
+pub fn due(store: &[u8]) -> Option<u8>
     requires { length store.now ≡ 128 }
     ensures { result ≡ due_in store.now }
 {
     if !fields::fields_in_range(store) {
-        return OUT_OF_RANGE;
+        return None;
     }
     if store[0] == OLDER_MARK {
-        return 36;
+        return Some(36);
     }
     if !programs::in_range(store) {
-        return OUT_OF_RANGE;
+        return None;
     }
-    0
+    Some(0)
 }
 
 // What a start on a store stores: unused programs where it has none, and the mark of this layout behind them, so that a store which has the mark has the
-// programs. Their number is asked of `due`: a compiler that knew it would join the stores of single bytes into wide ones.
+// programs. Their number is asked of `due`, which always has one here: a compiler that knew it would join the stores of single bytes into wide ones.
 pub fn converted(store: &[u8]) -> Plan
     requires { (length store.now ≡ 128) × (get_or store.now 0 0 ≡ older_mark → fits_layout store.now ≡ true) }
     ensures { stores_of result ≡ conversion store.now }
@@ -73,16 +65,11 @@ pub fn converted(store: &[u8]) -> Plan
     if store[0] != OLDER_MARK {
         return Plan::empty();
     }
-    let programs = programs::unused();
-    let mark = [LAYOUT_MARK];
     let all = Plan::empty()
-        .with_range(PROGRAMS, &programs)
-        .with_range(0, &mark);
-    let places = all.places;
-    let values = all.values;
+        .with_range(PROGRAMS, &programs::unused())
+        .with(0, LAYOUT_MARK);
     Plan {
-        places,
-        values,
-        count: due(store),
+        count: due(store).unwrap_or(0),
+        ..all
     }
 }

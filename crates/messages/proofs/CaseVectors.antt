@@ -1,7 +1,7 @@
 -- Worked texts in small letters (docs/RULES.md, L1), with the type in front: digits are read in either case, and a type or a name in small letters is none.
 use Prim.Native.Nat.{ℕ}
 use mathlib.Core.List.{List, [], ◌∷◌, map}
-use mathlib.Core.Option.{none, some, bind}
+use mathlib.Core.Option.{none, some}
 use mathlib.Core.Path.{◌≡◌, refl}
 use Rattle.wire.specs.Digits.{value_of, two_at, four_at, unhex, octets_in}
 use Rattle.messages.specs.Message.{Request, Reply}
@@ -64,7 +64,7 @@ spelt =
     ∷ []
 
 pub spelt_read : map (λ (row : List ℕ × Request). typed request_in row.0) spelt ≡ map (λ (row : List ℕ × Request). some row.1) spelt
-unfolding request_in begins_with is_name get_in set_in command_in power_control_in date_in numbers_in schedule_read_in schedule_enable_in two_at four_at value_of unhex octets_in bind
+unfolding request_in begins_with is_name get_in set_in command_in power_control_in date_in numbers_in schedule_read_in schedule_enable_in two_at four_at value_of unhex octets_in
 spelt_read = refl
 
 abbrev misspelt : List (List ℕ)
@@ -104,7 +104,7 @@ misspelt =
     ∷ []
 
 pub misspelt_unread : map (typed request_in) misspelt ≡ map (λ (_ : List ℕ). none) misspelt
-unfolding request_in begins_with is_name get_in set_in command_in power_control_in date_in numbers_in schedule_read_in schedule_enable_in two_at four_at value_of unhex octets_in bind
+unfolding request_in begins_with is_name get_in set_in command_in power_control_in date_in numbers_in schedule_read_in schedule_enable_in two_at four_at value_of unhex octets_in
 misspelt_unread = refl
 
 abbrev spelt_replies : List (List ℕ × Reply)
@@ -138,7 +138,7 @@ spelt_replies =
     ∷ []
 
 pub spelt_replies_read : map (λ (row : List ℕ × Reply). typed reply_in row.0) spelt_replies ≡ map (λ (row : List ℕ × Reply). some row.1) spelt_replies
-unfolding reply_in begins_with is_name flag_at mode_at date_in numbers_in parameter_in command_reply_in plain_reply_in power_read_reply_in power_control_reply_in date_write_reply_in tag_write_reply_in schedule_write_reply_in schedule_enable_reply_in two_at four_at value_of unhex octets_in bind
+unfolding reply_in begins_with is_name flag_at mode_at date_in numbers_in parameter_in command_reply_in plain_reply_in power_read_reply_in power_control_reply_in date_write_reply_in tag_write_reply_in schedule_write_reply_in schedule_enable_reply_in two_at four_at value_of unhex octets_in
 spelt_replies_read = refl
 
 abbrev misspelt_replies : List (List ℕ)
@@ -182,5 +182,5 @@ misspelt_replies =
     ∷ []
 
 pub misspelt_replies_unread : map (typed reply_in) misspelt_replies ≡ map (λ (_ : List ℕ). none) misspelt_replies
-unfolding reply_in begins_with is_name flag_at mode_at date_in numbers_in parameter_in command_reply_in plain_reply_in power_read_reply_in power_control_reply_in date_write_reply_in tag_write_reply_in schedule_write_reply_in schedule_enable_reply_in two_at four_at value_of unhex octets_in bind
+unfolding reply_in begins_with is_name flag_at mode_at date_in numbers_in parameter_in command_reply_in plain_reply_in power_read_reply_in power_control_reply_in date_write_reply_in tag_write_reply_in schedule_write_reply_in schedule_enable_reply_in two_at four_at value_of unhex octets_in
 misspelt_replies_unread = refl

@@ -8,3 +8,4 @@ pub mod ParseLaws
 pub mod NameLaws
 pub mod WrittenBack
 pub mod RepliesWrittenBack
+pub mod CountLaws

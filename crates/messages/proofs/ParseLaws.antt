@@ -2,13 +2,13 @@
 use Prim.Native.Nat.{ℕ}
 use mathlib.Core.Bool.{Bool, cond}
 use mathlib.Core.List.{List}
-use mathlib.Core.Option.{Option, none, some, bind, map}
+use mathlib.Core.Option.{Option, none, some, map}
 use mathlib.Core.Path.{◌≡◌, refl}
 use native.Mathlib.Omega.{arith}
 use borrow.Author.Tests.{eqb-true}
 use lib.Dec.{eqb}
 use lib.ListN.{length, drop}
-use Rattle.wire.specs.Digits.{two_at, four_at, octets_in}
+use Rattle.wire.specs.Digits.{bind, two_at, four_at, octets_in}
 use Rattle.wire.proofs.Tests.{cond-by}
 use Rattle.wire.proofs.DigitLaws.{two-below, four_below, bytes-few, bytes-length, bytes-are_bytes}
 use Rattle.messages.specs.Message.{IsDate, IsItem, IsNumbers, IsRequest}
@@ -27,7 +27,6 @@ Found P (some a) = P a
 
 module _ {A : Type 0} (P : A → Type 0) where
   pub bind_found : {B : Type 0} (o : Option B) (f : B → Option A) → ((b : B) → o ≡ some b → Found P (f b)) → Found P (bind o f)
-  unfolding bind
   bind_found none f h = tt
   bind_found (some b) f h = h b refl
 

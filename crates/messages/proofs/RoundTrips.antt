@@ -2,13 +2,13 @@
 use Prim.Native.Nat.{ℕ, zero, suc, ◌/◌, ◌%◌, ◌<◌, ◌≤◌}
 use mathlib.Core.Bool.{Bool, true, false, cond, ◌||◌}
 use mathlib.Core.List.{List, ◌++◌}
-use mathlib.Core.Option.{none, some, bind}
+use mathlib.Core.Option.{none, some}
 use mathlib.Core.Path.{◌≡◌, refl}
 use native.Mathlib.Omega.{arith}
 use borrow.Author.Tests.{le-leb, eq-eqb, eqb-true}
 use lib.Dec.{leb, eqb}
 use lib.ListN.{length}
-use Rattle.wire.specs.Digits.{digit_of, value_of, join, two, hex_of, two_at, four_at, octets_in}
+use Rattle.wire.specs.Digits.{bind, digit_of, value_of, join, two, hex_of, two_at, four_at, octets_in}
 use Rattle.wire.specs.Judge.{is_request_type}
 use Rattle.wire.proofs.DigitLaws.{two_back, four-back, bytes_back, hex_length}
 use Rattle.messages.specs.Message.{Request, Reply, IsDate, IsItem, IsNumbers, IsParameter, IsRequest, IsReply, is_power_mode}
@@ -50,7 +50,6 @@ use Rattle.messages.specs.declared.message.Item.{Item}
 -- a result, a status or an operation type
 flag_back : (n : ℕ) → n ≤ 1
     → bind (join 16 (value_of (digit_of (n / 16))) (value_of (digit_of (n % 16)))) (λ m. cond (leb m 1) (some m) none) ≡ some n
-unfolding bind
 flag_back n h = rw (two_back n (omega arith), le-leb n 1 h)
 
 either : {P : Type 0} (a b : Bool) → (a || b) ≡ true → (a ≡ true → P) → (b ≡ true → P) → P
@@ -70,7 +69,7 @@ each_item P serial model tag former Item.Tag = tag
 each_item P serial model tag former Item.FormerTag = former
 
 date_back : (d : Date) → IsDate d → date_in (date_text d) ≡ some d
-unfolding date_in date_text two_at bind
+unfolding date_in date_text two_at
 date_back d h =
     rw (
       two_back d.year h.year,
@@ -91,7 +90,7 @@ numbers-back s h = rw (eq-eqb (length (hex_of s)) 32 (omega (arith, hex_length s
 
 parameter-back : (reply : ℕ → ℕ → ℕ → ℕ → ℕ → ℕ → Reply) (r p c o l v : ℕ) → IsParameter r p c o l v
     → parameter_in reply (parameter_text r p c o l v) ≡ some (reply r p c o l v)
-unfolding parameter_in parameter_text flag_at two_at four_at bind
+unfolding parameter_in parameter_text flag_at two_at four_at
 parameter-back reply r p c o l v h =
     rw (
       flag_back r h.result,
@@ -105,7 +104,7 @@ parameter-back reply r p c o l v h =
 -- ---- messages
 
 pub request-back : (r : Request) → IsRequest r → request_in (request_type r) (request_text r) ≡ some r
-unfolding request_in request_type request_text date_text schedule_text begins_with is_name command_in get_in set_in power_control_in schedule_read_in schedule_enable_in two_at four_at bind
+unfolding request_in request_type request_text date_text schedule_text begins_with is_name command_in get_in set_in power_control_in schedule_read_in schedule_enable_in two_at four_at
 request-back (get_parameter page code) h = rw (two_back page h.0, two_back code h.1)
 request-back (set_parameter page code value) h = rw (two_back page h.0, two_back code h.1, four-back value h.2)
 request-back power_read h = refl
@@ -128,7 +127,7 @@ status-is_no_name (suc zero) mode h = refl
 status-is_no_name (suc (suc status)) mode h = absurd (omega arith)
 
 pub reply-back : (r : Reply) → IsReply r → reply_in (reply_type r) (reply_text r) ≡ some r
-unfolding reply_in reply_type reply_text date_text schedule_reply_text begins_with is_name command_reply_in plain_reply_in power_read_reply_in power_control_reply_in date_write_reply_in tag_write_reply_in schedule_write_reply_in schedule_enable_reply_in flag_at mode_at two_at four_at bind
+unfolding reply_in reply_type reply_text date_text schedule_reply_text begins_with is_name command_reply_in plain_reply_in power_read_reply_in power_control_reply_in date_write_reply_in tag_write_reply_in schedule_write_reply_in schedule_enable_reply_in flag_at mode_at two_at four_at
 reply-back null h = refl
 reply-back (get_reply result page code operation largest value) h = parameter-back get_reply result page code operation largest value h
 reply-back (set_reply result page code operation largest value) h = parameter-back set_reply result page code operation largest value h

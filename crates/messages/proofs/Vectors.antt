@@ -1,7 +1,7 @@
 -- Worked texts of every row of the message table, each byte written out from the makers' documents and the message table (docs/RULES.md), with the type in front.
 use Prim.Native.Nat.{ℕ}
 use mathlib.Core.List.{List, [], ◌∷◌, map}
-use mathlib.Core.Option.{Option, none, some, bind}
+use mathlib.Core.Option.{Option, none, some}
 use mathlib.Core.Path.{◌≡◌, refl}
 use lib.ListN.{take, drop}
 use Rattle.wire.specs.Digits.{hex_of, value_of, two_at, four_at, unhex, octets_in}
@@ -137,7 +137,7 @@ request-texts = refl
 
 pub request-texts_read : map (λ (row : Request × List ℕ). typed request_in row.1) requests
     ≡ map (λ (row : Request × List ℕ). some row.0) requests
-unfolding request_in begins_with is_name get_in set_in command_in power_control_in date_in numbers_in schedule_read_in schedule_enable_in two_at four_at value_of unhex octets_in bind
+unfolding request_in begins_with is_name get_in set_in command_in power_control_in date_in numbers_in schedule_read_in schedule_enable_in two_at four_at value_of unhex octets_in
 request-texts_read = refl
 
 -- 000 prints 12h as the length of a date write, whose message has 20 bytes (PK6)
@@ -250,7 +250,7 @@ unfolding reply_type reply_text parameter_text date_text schedule_reply_text hex
 reply-texts = refl
 
 pub reply-texts_read : map (λ (row : Reply × List ℕ). typed reply_in row.1) replies ≡ map (λ (row : Reply × List ℕ). some row.0) replies
-unfolding reply_in begins_with is_name flag_at mode_at date_in numbers_in parameter_in command_reply_in plain_reply_in power_read_reply_in power_control_reply_in date_write_reply_in tag_write_reply_in schedule_write_reply_in schedule_enable_reply_in two_at four_at value_of unhex octets_in bind
+unfolding reply_in begins_with is_name flag_at mode_at date_in numbers_in parameter_in command_reply_in plain_reply_in power_read_reply_in power_control_reply_in date_write_reply_in tag_write_reply_in schedule_write_reply_in schedule_enable_reply_in two_at four_at value_of unhex octets_in
 reply-texts_read = refl
 
 -- ---- texts near a message, and what is found in them
@@ -325,7 +325,7 @@ near_requests =
 
 pub near_requests_lem : map (λ (row : List ℕ × Option Request). typed request_in row.0) near_requests
     ≡ map (λ (row : List ℕ × Option Request). row.1) near_requests
-unfolding request_in begins_with is_name get_in set_in command_in power_control_in date_in numbers_in schedule_read_in schedule_enable_in two_at value_of unhex octets_in bind
+unfolding request_in begins_with is_name get_in set_in command_in power_control_in date_in numbers_in schedule_read_in schedule_enable_in two_at value_of unhex octets_in
 near_requests_lem = refl
 
 abbrev near_replies : List (List ℕ)
@@ -403,5 +403,5 @@ near_replies =
     ∷ []
 
 pub near_replies_lem : map (typed reply_in) near_replies ≡ map (λ (_ : List ℕ). none) near_replies
-unfolding reply_in begins_with is_name flag_at mode_at parameter_in command_reply_in plain_reply_in power_read_reply_in power_control_reply_in date_write_reply_in tag_write_reply_in numbers_in schedule_write_reply_in schedule_enable_reply_in two_at four_at value_of unhex octets_in bind
+unfolding reply_in begins_with is_name flag_at mode_at parameter_in command_reply_in plain_reply_in power_read_reply_in power_control_reply_in date_write_reply_in tag_write_reply_in numbers_in schedule_write_reply_in schedule_enable_reply_in two_at four_at value_of unhex octets_in
 near_replies_lem = refl

@@ -7,7 +7,7 @@ use lib.ListN.{length, take, length-append, take-append-drop}
 use lib.Seq.{paste, length-take-le}
 use Rattle.wire.specs.Packet.{over}
 use Rattle.wire.proofs.PacketLaws.{over-paste}
-use Rattle.messages.specs.Inner.{Writes, Beside}
+use Rattle.messages.specs.Inner.{Writes}
 
 -- the parts of a text as one
 abbrev pub joined : List (List ℕ) → List ℕ
@@ -53,12 +53,3 @@ pub named_written : (kind n : ℕ) (name : List ℕ) (ts : List (List ℕ)) {o m
 named_written kind n name ts e f w ws =
     let count : n ≡ length (joined (name ∷ ts)) = rw (joined_cons name ts, length-append) (omega arith) in
     parts-written kind n (name ∷ ts) count (put w (rw e ws))
-
--- ---- the part of the bytes beside a message that the message counts
-
-module _ {k n : ℕ} {bytes : List ℕ} (beside : Beside k bytes) (e : k ≡ n) where
-  pub part_length : n ≡ length (take n bytes)
-  part_length = sym (length-take-le n bytes (omega arith))
-
-  pub part-few : length (take n bytes) ≤ 16
-  part-few = let l = part_length in omega arith

@@ -1,12 +1,7 @@
 -- What inner functions ask and give. No contract of an entry point cites it.
-use Rattle.std.specs.Prelude.{List, ◌≡◌, ℕ, ◌≤◌, length}
+use Rattle.std.specs.Prelude.{List, ◌≡◌, ℕ, length}
 use Rattle.wire.specs.Packet.{over}
 use Rattle.messages.specs.declared.write.Written.{Written}
-
--- bytes that are there, and that travel
-pub record Beside (count : ℕ) (bytes : List ℕ) : Type 0 where
-  pub few : count ≤ 16
-  pub there : count ≤ length bytes
 
 -- a text of a type, written at the start of a buffer
 pub record Writes (type : ℕ) (text : List ℕ) (r : Written) (before after : List ℕ) : Type 0 where

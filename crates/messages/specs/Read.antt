@@ -2,8 +2,8 @@
 -- the station finds in it. Type and text select together; the length is exact; fields are taken apart in their order, and the first
 -- that fails ends it. None: anything else, which a board answers with NULL and the station refuses with 35.
 use Rattle.std.specs.Prelude.{Bool, true, false, cond, ◌&&◌, List, [], ◌∷◌, ℕ, leb, eqb, length, drop}
-use Rattle.std.proofs.Math.Option.{Option, none, some, bind, map}
-use Rattle.wire.specs.Digits.{two_at, four_at, octets_in}
+use Rattle.std.proofs.Math.Option.{Option, none, some, map}
+use Rattle.wire.specs.Digits.{bind, two_at, four_at, octets_in}
 use Rattle.messages.specs.Message.{Request, Reply, is_power_mode}
 use Rattle.messages.specs.Message.ScheduleRequest.{schedule_read, schedule_write, schedule_enable}
 use Rattle.messages.specs.Message.ScheduleReply.{schedule_read_reply, schedule_write_reply, schedule_enable_reply}

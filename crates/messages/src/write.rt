@@ -1,99 +1,65 @@
 // The texts of requests and replies.
 ghost use Rattle.std.specs.Prelude.{◌++◌, ◌≡◌, ◌+◌, ◌≤◌, length};
 ghost use Rattle.std.proofs.Math.Seq.{paste};
-ghost use Rattle.wire.specs.Digits.{two, four, hex_of};
+ghost use Rattle.wire.specs.Digits.{two, four, hex_of, octets_of};
 ghost use Rattle.messages.specs.Text.{power_control_name, power_read_reply_name, power_read_reply_fixed, date_write_reply_name, schedule_read_name, schedule_enable_name, schedule_enable_reply_name, item_read_name, item_reply_name, date_text, parameter_text, schedule_text, schedule_reply_text, request_type, request_text, reply_type, reply_text};
 ghost use Rattle.wire.specs.Packet.{type_a, type_b, type_c, type_e};
-ghost use Rattle.messages.specs.View.{request_of, reply_of, status_number, mode_number, date_answer_of, schedule_request_of, schedule_answer_of, schedule_request_count, schedule_answer_count, request_count, reply_count};
-ghost use Rattle.messages.specs.Inner.{Beside, Writes};
+ghost use Rattle.messages.specs.View.{request_of, reply_of, status_number, mode_number, date_answer_of, schedule_request_of, schedule_answer_of, request_count, reply_count};
+ghost use Rattle.messages.specs.Inner.{Writes};
 
 use crate::message::{
     Date, DateAnswer, Item, Parameter, PowerMode, Reply, Request, ScheduleAnswer, ScheduleRequest,
     Status,
 };
+use wire::digits::Octets;
 use wire::{digits, packet};
 
-// The type of a message and the length of its text.
+// The type of a message and the length of its text, which lies in the array that the caller lent, since there is no heap.
 #[derive(Clone, Copy)]
 pub struct Written {
     pub kind: u8,
     pub length: usize,
 }
 
-// Writes the text of a request, with a tag's bytes or a schedule's numbers beside it.
-pub fn request_text(request: Request, bytes: &[u8], text: &mut [u8; 62]) -> Written
-    requires { Beside (request_count request) bytes.now }
-    ensures { Writes (request_type (request_of request bytes.now)) (request_text (request_of request bytes.now)) result text.old text.new }
+// Writes the text of a request.
+pub fn request_text(request: Request, text: &mut [u8; 62]) -> Written
+    requires { request_count request ≤ 16 }
+    ensures text { Writes (request_type (request_of request)) (request_text (request_of request)) result text.old text.new }
+    ensures length { (2 ≤ result.length) × (result.length ≤ 36) }
 {
     match request {
-        Request::Get { page, code } => {
-            return put_get(page, code, text);
-        }
-        Request::Set { page, code, value } => {
-            return put_set(page, code, value, text);
-        }
-        Request::PowerRead => {
-            return put_name(packet::TYPE_A, b"01D6", text);
-        }
-        Request::PowerControl(mode) => {
-            return put_power_control(mode, text);
-        }
-        Request::DateRead => {
-            return put_name(packet::TYPE_A, b"C211", text);
-        }
-        Request::DateWrite(date) => {
-            return put_named_date(packet::TYPE_A, b"C212", date, text);
-        }
-        Request::ItemRead(item) => {
-            let name = item_read_name(item);
-            return put_name(packet::TYPE_A, &name, text);
-        }
-        Request::TagWrite(count) => {
-            let n = count as usize;
-            return put_named_bytes(packet::TYPE_A, b"F011", &bytes[..n], text);
-        }
-        Request::Schedule(asked) => {
-            return put_schedule(asked, bytes, text);
-        }
+        Request::Get { page, code } => put_get(page, code, text),
+        Request::Set { page, code, value } => put_set(page, code, value, text),
+        Request::PowerRead => put_name(packet::TYPE_A, b"01D6", text),
+        Request::PowerControl(mode) => put_power_control(mode, text),
+        Request::DateRead => put_name(packet::TYPE_A, b"C211", text),
+        Request::DateWrite(date) => put_named_date(packet::TYPE_A, b"C212", date, text),
+        Request::ItemRead(item) => put_name(packet::TYPE_A, &item_read_name(item), text),
+        Request::TagWrite(tag) => put_named_octets(packet::TYPE_A, b"F011", tag, text),
+        Request::Schedule(asked) => put_schedule(asked, text),
     }
 }
 
-// Writes the text of a reply, with the bytes of a serial number, a model or a tag, or a schedule's numbers, beside it.
-pub fn reply_text(reply: Reply, bytes: &[u8], text: &mut [u8; 62]) -> Written
-    requires { Beside (reply_count reply) bytes.now }
-    ensures { Writes (reply_type (reply_of reply bytes.now)) (reply_text (reply_of reply bytes.now)) result text.old text.new }
+// Writes the text of a reply.
+pub fn reply_text(reply: Reply, text: &mut [u8; 62]) -> Written
+    requires { reply_count reply ≤ 16 }
+    ensures text { Writes (reply_type (reply_of reply)) (reply_text (reply_of reply)) result text.old text.new }
+    ensures length { (2 ≤ result.length) × (result.length ≤ 38) }
 {
     match reply {
-        Reply::Null => {
-            return put_name(packet::TYPE_B, b"BE", text);
+        Reply::Null => put_name(packet::TYPE_B, b"BE", text),
+        Reply::Got(status, parameter) => put_parameter(packet::TYPE_D, status, parameter, text),
+        Reply::Set(status, parameter) => put_parameter(packet::TYPE_F, status, parameter, text),
+        Reply::PowerStatus(status, mode) => put_power_read_reply(status, mode, text),
+        Reply::PowerControl(status, mode) => put_power_control_reply(status, mode, text),
+        Reply::Date(answer) => put_date_reply(answer, text),
+        Reply::Item(item, octets) => {
+            put_named_octets(packet::TYPE_B, &item_reply_name(item), octets, text)
         }
-        Reply::Got(status, parameter) => {
-            return put_parameter(packet::TYPE_D, status, parameter, text);
+        Reply::TagWritten(status, tag) => {
+            put_status_and_bytes(b"F111", status, &tag.bytes[..tag.count as usize], text)
         }
-        Reply::Set(status, parameter) => {
-            return put_parameter(packet::TYPE_F, status, parameter, text);
-        }
-        Reply::PowerStatus(status, mode) => {
-            return put_power_read_reply(status, mode, text);
-        }
-        Reply::PowerControl(status, mode) => {
-            return put_power_control_reply(status, mode, text);
-        }
-        Reply::Date(answer) => {
-            return put_date_reply(answer, text);
-        }
-        Reply::Item(item, count) => {
-            let n = count as usize;
-            let name = item_reply_name(item);
-            return put_named_bytes(packet::TYPE_B, &name, &bytes[..n], text);
-        }
-        Reply::TagWritten(status, count) => {
-            let n = count as usize;
-            return put_status_and_bytes(b"F111", status, &bytes[..n], text);
-        }
-        Reply::Schedule(answer) => {
-            return put_schedule_reply(answer, bytes, text);
-        }
+        Reply::Schedule(answer) => put_schedule_reply(answer, text),
     }
 }
 
@@ -120,6 +86,14 @@ fn put_named_bytes(kind: u8, name: &[u8; 4], bytes: &[u8], text: &mut [u8; 62]) 
         kind,
         length: 4 + 2 * bytes.len(),
     }
+}
+
+// A name and the bytes that are counted behind it.
+fn put_named_octets(kind: u8, name: &[u8; 4], octets: Octets, text: &mut [u8; 62]) -> Written
+    requires { octets.count ≤ 16 }
+    ensures { Writes kind (name.now ++ hex_of (octets_of octets)) result text.old text.new }
+{
+    put_named_bytes(kind, name, &octets.bytes[..octets.count as usize], text)
 }
 
 // A name and a date behind it.
@@ -213,12 +187,8 @@ fn put_date_reply(answer: DateAnswer, text: &mut [u8; 62]) -> Written
     ensures { Writes type_b (reply_text (date_answer_of answer)) result text.old text.new }
 {
     match answer {
-        DateAnswer::Read(date) => {
-            return put_named_date(packet::TYPE_B, b"C311", date, text);
-        }
-        DateAnswer::Written(status, date) => {
-            return put_date_write_reply(status, date, text);
-        }
+        DateAnswer::Read(date) => put_named_date(packet::TYPE_B, b"C311", date, text),
+        DateAnswer::Written(status, date) => put_date_write_reply(status, date, text),
     }
 }
 
@@ -255,20 +225,16 @@ fn put_status_and_bytes(
 }
 
 // C221 and the program, C222 and the sixteen numbers, or C215, the program and the enable.
-fn put_schedule(request: ScheduleRequest, bytes: &[u8], text: &mut [u8; 62]) -> Written
-    requires { Beside (schedule_request_count request) bytes.now }
-    ensures { Writes type_a (schedule_text (schedule_request_of request bytes.now)) result text.old text.new }
+fn put_schedule(request: ScheduleRequest, text: &mut [u8; 62]) -> Written
+    ensures text { Writes type_a (schedule_text (schedule_request_of request)) result text.old text.new }
+    ensures length { (6 ≤ result.length) × (result.length ≤ 36) }
 {
     match request {
-        ScheduleRequest::Read(program) => {
-            return put_schedule_read(program, text);
+        ScheduleRequest::Read(program) => put_schedule_read(program, text),
+        ScheduleRequest::Write(numbers) => {
+            put_named_bytes(packet::TYPE_A, b"C222", &numbers, text)
         }
-        ScheduleRequest::Write => {
-            return put_named_bytes(packet::TYPE_A, b"C222", &bytes[..16], text);
-        }
-        ScheduleRequest::Enable(program, enable) => {
-            return put_schedule_enable(program, enable, text);
-        }
+        ScheduleRequest::Enable(program, enable) => put_schedule_enable(program, enable, text),
     }
 }
 
@@ -298,19 +264,19 @@ fn put_schedule_enable(program: u8, enable: u8, text: &mut [u8; 62]) -> Written
 }
 
 // C321 and the sixteen numbers, C322, status and the sixteen numbers, or C315, status, the program and the enable.
-fn put_schedule_reply(answer: ScheduleAnswer, bytes: &[u8], text: &mut [u8; 62]) -> Written
-    requires { Beside (schedule_answer_count answer) bytes.now }
-    ensures { Writes type_b (schedule_reply_text (schedule_answer_of answer bytes.now)) result text.old text.new }
+fn put_schedule_reply(answer: ScheduleAnswer, text: &mut [u8; 62]) -> Written
+    ensures text { Writes type_b (schedule_reply_text (schedule_answer_of answer)) result text.old text.new }
+    ensures length { (10 ≤ result.length) × (result.length ≤ 38) }
 {
     match answer {
-        ScheduleAnswer::Read => {
-            return put_named_bytes(packet::TYPE_B, b"C321", &bytes[..16], text);
+        ScheduleAnswer::Read(numbers) => {
+            put_named_bytes(packet::TYPE_B, b"C321", &numbers, text)
         }
-        ScheduleAnswer::Written(status) => {
-            return put_status_and_bytes(b"C322", status, &bytes[..16], text);
+        ScheduleAnswer::Written(status, numbers) => {
+            put_status_and_bytes(b"C322", status, &numbers, text)
         }
         ScheduleAnswer::Enabled(status, program, enable) => {
-            return put_schedule_enable_reply(status, program, enable, text);
+            put_schedule_enable_reply(status, program, enable, text)
         }
     }
 }

@@ -1,10 +1,10 @@
 -- What inner functions ask and give. No contract of an entry point cites it.
 use Rattle.std.specs.Prelude.{Bool, List, [], ℕ, ◌≤◌, length}
 use Rattle.wire.specs.Packet.{most_id, least_buffer}
-use Rattle.store.specs.declared.contents.ItemBytes.{ItemBytes}
 use Rattle.plan.specs.Plans.{stores_of}
 use Rattle.calls.specs.Board as calls
-use Rattle.actions.specs.Inner.{StoreInRange}
+use Rattle.actions.specs.Inner.{StoreInRange, ItemsFit}
+use Rattle.actions.specs.declared.Identity.{Identity}
 use Rattle.packets.specs.Packets as packets
 use Rattle.packets.specs.declared.Addressee.{Addressee}
 use Rattle.packets.specs.declared.Acted.{Acted}
@@ -16,15 +16,14 @@ addressee_of Addressee.All = packets.all
 addressee_of Addressee.Another = packets.another
 
 -- a board that serves packets, with its store
-pub record Serving (id : ℕ) (serial model : ItemBytes) (m : List ℕ) : Type 0 where
-  pub known : id ≤ most_id
-  pub serial_few : serial.count ≤ 16
-  pub model_few : model.count ≤ 16
+pub record Serving (n : Identity) (m : List ℕ) : Type 0 where
+  pub known : n.id ≤ most_id
+  pub few : ItemsFit n
   pub ready : StoreInRange m
 
 -- and with a buffer for the reply
-pub record Addressed (id : ℕ) (serial model : ItemBytes) (m lent : List ℕ) : Type 0 where
-  pub serving : Serving id serial model m
+pub record Addressed (n : Identity) (m lent : List ℕ) : Type 0 where
+  pub serving : Serving n m
   pub room : least_buffer ≤ length lent
 
 -- what a packet answers, and the erase after it

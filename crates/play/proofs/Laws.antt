@@ -1,15 +1,18 @@
 -- Laws of a run's parts: what is written at the start of a list, what a call, a gap and a start show, and what is entered of it.
-use mathlib.Core.Bool.{true, false, true≢false}
+use mathlib.Core.Bool.{false}
 use mathlib.Core.List.{List, [], ◌∷◌, ◌++◌, append_assoc}
 use mathlib.Core.Option.{some-ne-none}
 use mathlib.Core.Path.{◌≡◌, refl, sym, ap, ◌∙◌}
-use Prim.Native.Nat.{ℕ, ◌+◌, ◌≤◌, ◌<◌}
+use Prim.Native.Nat.{ℕ, ◌+◌, ◌≤◌, ◌<◌, min}
 use native.Mathlib.Omega.{arith}
-use borrow.Author.Tests.{le-ltb, lt-ltb, ne_eqb}
+use borrow.Author.Tests.{le-ltb, lt-ltb, ltb-true, ltb-false, ne_eqb}
+use lib.Dec.{ltb}
 use lib.ListN.{length, set, drop, length-append}
 use lib.Seq.{drop-drop, drop_at}
 use Rattle.wire.specs.Packet.{over}
+use Rattle.wire.proofs.Tests.{cond-by}
 use Rattle.wire.specs.Refusal.{number_of}
+use Rattle.std.specs.Prelude.{Result as Returned, Ok, Err}
 use Rattle.calls.specs.Board as calls
 use Rattle.calls.specs.Board.{Identity, after}
 use Rattle.calls.specs.Calls.{EntryCheck, refused_entry, nonePendingEntry, pendingEntry, refuse, entry_check_of, call_on, on_call, on_step, on_start}
@@ -17,33 +20,15 @@ use Rattle.calls.specs.Lists.{Event, call, step, cut, answered, seen, from, run}
 use Rattle.packets.specs.Packets.{BoardState, BoardOutcome}
 use Rattle.board.specs.BoardKind.{Call, byte, gap, does, board_kind}
 use Rattle.board.specs.Demand3.{Events, Trace}
-use Rattle.board.specs.View.{answer_of, answer_kind, gave, started_with, bare, start_refusal_in, Result, result}
+use Rattle.board.specs.View.{gave, started_of, bare, start_refusal_in, Result, result}
 use Rattle.board.specs.Values.{store_started, Starts}
-use Rattle.board.specs.declared.board.Answer.{Answer}
+use Rattle.board.specs.declared.board.Board.{Board}
 use Rattle.board.specs.declared.board.Done.{Done}
-use Rattle.board.specs.declared.board.Started.{Started}
-use Rattle.board.specs.declared.board.StartAnswer.{StartAnswer}
-use Rattle.board.proofs.Answers.{IsNoRefusal, IsNoReply}
 use Rattle.wire.specs.declared.refusal.Refusal.{Refusal}
-use Rattle.play.specs.Play.{event_of, number_in}
-use Rattle.play.specs.Inner.{Turns, Restarts, Enters}
-use Rattle.play.specs.declared.Seen.{Seen}
+use Rattle.play.specs.Play.{event_of, part_of}
+use Rattle.play.specs.Inner.{event_as, Decodes, Turns, Restarts, Enters}
+use Rattle.play.specs.declared.event.EventKind.{EventKind}
 use Rattle.play.specs.declared.Turn.{Turn}
-
--- ---- the number in an answer
-
-pub refusal-number : (a : Answer) (r : Refusal) (n : ℕ) → a ≡ Answer.Refused r → n ≡ number_of r → n ≡ number_in (answer_of a)
-refusal-number a r n e q = rw e q
-
--- an answer that is no refusal and no reply has none
-pub no_number : (a : Answer) → IsNoRefusal a → IsNoReply a → 0 ≡ number_in (answer_of a)
-no_number Answer.Waiting k l = refl
-no_number Answer.Silent k l = refl
-no_number Answer.Begun k l = refl
-no_number Answer.More k l = refl
-no_number Answer.Ended k l = refl
-no_number (Answer.Refused r) k l = absurd (k r refl)
-no_number (Answer.Reply n) k l = absurd (l n refl)
 
 -- ---- written at the start of a list
 
@@ -89,18 +74,46 @@ module _ (k : ℕ) (lent : List ℕ) where
   unfolding event_of
   cut-event h g s = rw (le-ltb k 256 h, ne_eqb k 256 g, ne_eqb k 257 s)
 
+-- what is lent to an event that is no cut
+lent-part : (k wanted left : ℕ) → k ≤ 257 → min left wanted ≡ part_of k wanted left
+unfolding part_of
+lent-part k wanted left h =
+    rw (le-ltb 257 k h)
+    (cond-by (λ (x : ℕ). min left wanted ≡ x) (ltb left wanted) _ _ (λ t. omega (arith, ltb-true left wanted t))
+    (λ f. omega (arith, ltb-false left wanted f)))
+
+no-part : (k wanted left : ℕ) → 257 < k → 0 ≡ part_of k wanted left
+unfolding part_of
+no-part k wanted left h = rw (lt-ltb 257 k h)
+
+module _ (k : ℕ) where
+  pub byte-decodes : k < 256 → Decodes k (EventKind.Byte k)
+  byte-decodes h = record { event = λ lent. sym (byte-event k lent h); part = λ w l. lent-part k w l (omega arith) }
+
+  pub gap-decodes : k ≡ 256 → Decodes k EventKind.Gap
+  gap-decodes h = record { event = λ lent. sym (gap-event k lent h); part = λ w l. lent-part k w l (omega arith) }
+
+  pub step-decodes : k ≡ 257 → Decodes k EventKind.Step
+  step-decodes h = record { event = λ lent. sym (step-event k lent h); part = λ w l. lent-part k w l (omega arith) }
+
+  pub cut-decodes : 257 < k → Decodes k EventKind.Cut
+  cut-decodes h =
+      record {
+        event = λ lent. sym (cut-event k lent (omega arith) (λ e. omega arith) (λ e. omega arith));
+        part = λ w l. no-part k w l h;
+      }
+
 -- ---- what a call shows
 
-shown : (i : Identity) (s : BoardState) (e : Event Call) (t : Turn) (d : Done) (m m' lent : List ℕ) (o : BoardOutcome)
-    → t ≡ record { board = d.board; seen = Seen.Answered d.answer } → gave d m' lent ≡ result o m
-    → ((es : Events) → seen board_kind o m ∷ run board_kind i o.state (after o m) es ≡ run board_kind i s m (e ∷ es)) → Turns t i s e m m' lent
+shown : (i : Identity) (s : BoardState) (e : Event Call) (d : Done) (m m' lent : List ℕ) (o : BoardOutcome) → gave d m' lent ≡ result o m
+    → ((es : Events) → seen board_kind o m ∷ run board_kind i o.state (after o m) es ≡ run board_kind i s m (e ∷ es))
+    → Turns (Turn.Answered d) i s e m m' lent
 unfolding seen
-shown i s e t d m m' lent o a q f =
-    rw a
-    (record {
+shown i s e d m m' lent o q f =
+    record {
       traced = λ es. ap (λ (r : Result). answered r.answer r.buffer r.store ∷ run board_kind i r.state r.store es) q ∙ f es;
-      kept = λ g. absurd (true≢false g);
-    })
+      kept = λ g. cc;
+    }
 
 abbrev lent_as : List ℕ → Result → Result
 lent_as lent r = record { answer = r.answer; state = r.state; store = r.store; buffer = lent }
@@ -118,23 +131,23 @@ module _ (s : BoardState) (m lent : List ℕ) where
   unfolding on_call
   gap-lent d m' e = ap (lent_as lent) e ∙ gap-as (entry_check_of board_kind false s m)
 
--- each way through a turn: the tests tell the event, and its call shows what its contract says
-module _ (i : Identity) (s : BoardState) (k : ℕ) (t : Turn) (m m' lent lent' : List ℕ) where
-  module _ (d : Done) (made : t ≡ record { board = d.board; seen = Seen.Answered d.answer }) where
-    pub byte-turns : gave d m' lent' ≡ result (on_call board_kind (byte k) s m lent) m → k < 256 → Turns t i s (event_of k lent) m m' lent'
+-- each way through a turn: the event's call shows what its contract says
+module _ (i : Identity) (s : BoardState) (k : EventKind) (m m' lent lent' : List ℕ) where
+  module _ (d : Done) where
+    pub byte-turns : (b : ℕ) → gave d m' lent' ≡ result (on_call board_kind (byte b) s m lent) m → k ≡ EventKind.Byte b
+        → Turns (Turn.Answered d) i s (event_as k lent) m m' lent'
     unfolding run
-    byte-turns e h = rw (byte-event k lent h) (shown i s _ t d m m' lent' _ made e (λ es. refl))
+    byte-turns b e h = rw h (shown i s _ d m m' lent' _ e (λ es. refl))
 
-    pub gap-turns : gave d m' [] ≡ result (on_call board_kind gap s m []) m → k ≡ 256 → Turns t i s (event_of k lent) m m' lent
+    pub gap-turns : gave d m' [] ≡ result (on_call board_kind gap s m []) m → k ≡ EventKind.Gap
+        → Turns (Turn.Answered d) i s (event_as k lent) m m' lent
     unfolding run
-    gap-turns e h = rw (gap-event k lent h) (shown i s _ t d m m' lent _ made (gap-lent s m lent d m' e) (λ es. refl))
+    gap-turns e h = rw h (shown i s _ d m m' lent _ (gap-lent s m lent d m' e) (λ es. refl))
 
-    pub step-turns : gave d m' lent' ≡ result (on_step board_kind s m lent) m → k ≡ 257 → Turns t i s (event_of k lent) m m' lent'
+    pub step-turns : gave d m' lent' ≡ result (on_step board_kind s m lent) m → k ≡ EventKind.Step
+        → Turns (Turn.Answered d) i s (event_as k lent) m m' lent'
     unfolding run
-    step-turns e h = rw (step-event k lent h) (shown i s _ t d m m' lent' _ made e (λ es. refl))
-
-  pub cut-turns : Restarts t i m m' → 256 ≤ k → (k ≡ 256 → ⊥) → (k ≡ 257 → ⊥) → Turns t i s (event_of k lent) m m' lent
-  cut-turns r h g n = rw (cut-event k lent h g n) (record { traced = r.traced s lent; kept = r.kept })
+    step-turns e h = rw h (shown i s _ d m m' lent' _ e (λ es. refl))
 
 -- ---- what a start shows
 
@@ -149,38 +162,30 @@ refused-keeps : (o : calls.Started BoardState) (m : List ℕ) (n : ℕ) → call
 refused-keeps (calls.board s es) m n e = absurd (some-ne-none _ (ap start_refusal_in e))
 refused-keeps (calls.start_refused k) m n e = refl
 
-module _ (i : Identity) (r : Started) (m m' : List ℕ) (told : Starts r m m' (on_start board_kind i m)) where
-  answer-is : (w : StartAnswer) → r.answer ≡ w → started_with w r.board ≡ bare (on_start board_kind i m)
-  answer-is w v = ap (λ (w : StartAnswer). started_with w r.board) (sym v) ∙ told.started
+module _ (i : Identity) (v : Returned Board Refusal) (m m' : List ℕ) (told : Starts v m m' (on_start board_kind i m)) where
+  answer-is : (w : Returned Board Refusal) → v ≡ w → started_of w ≡ bare (on_start board_kind i m)
+  answer-is w e = ap started_of (sym e) ∙ told.started
 
-  goes_on_lem : (w : StartAnswer) (k : BoardState → List ℕ → Trace) → r.answer ≡ w
-      → from board_kind (started_with w r.board) m' k ≡ from board_kind (on_start board_kind i m) m k
-  goes_on_lem w k v =
-      ap (λ (o : calls.Started BoardState). from board_kind o m' k) (answer-is w v) ∙ from-bare (on_start board_kind i m) m m' k told.store
+  goes_on_lem : (w : Returned Board Refusal) (k : BoardState → List ℕ → Trace) → v ≡ w
+      → from board_kind (started_of w) m' k ≡ from board_kind (on_start board_kind i m) m k
+  goes_on_lem w k e =
+      ap (λ (o : calls.Started BoardState). from board_kind o m' k) (answer-is w e) ∙ from-bare (on_start board_kind i m) m m' k told.store
 
-  pub started-again : r.answer ≡ StartAnswer.Ready → Restarts (record { board = r.board; seen = Seen.Started }) i m m'
+  pub started-again : (b : Board) → v ≡ Ok b → Restarts (Turn.Started b) i m m'
   unfolding run from
-  started-again v = record { traced = λ s lent es. goes_on_lem StartAnswer.Ready _ v; kept = λ g. absurd (true≢false g) }
+  started-again b e = record { traced = λ s lent es. goes_on_lem (Ok b) _ e; kept = λ g. cc }
 
-  pub refused-again : (q : Refusal) → r.answer ≡ StartAnswer.Refused q → Restarts (record { board = r.board; seen = Seen.Unstarted q }) i m m'
+  pub refused-again : (q : Refusal) → v ≡ Err q → Restarts (Turn.Unstarted q) i m m'
   unfolding run from
-  refused-again q v =
+  refused-again q e =
       record {
-        traced = λ s lent es. goes_on_lem (StartAnswer.Refused q) _ v;
-        kept = λ g. told.store ∙ refused-keeps (on_start board_kind i m) m (number_of q) (answer-is (StartAnswer.Refused q) v);
+        traced = λ s lent es. goes_on_lem (Err q) _ e;
+        kept = λ g. told.store ∙ refused-keeps (on_start board_kind i m) m (number_of q) (answer-is (Err q) e);
       }
 
 -- ---- what is entered
 
-module _ (s : Seen) (m log log' : List ℕ) where
-  pub answer-enters : (a : Answer) (k n : ℕ) → s ≡ Seen.Answered a → k ≡ answer_kind (answer_of a) → n ≡ number_in (answer_of a)
-      → log' ≡ over (k ∷ n ∷ m) log
-      → Enters s true m log log'
-  answer-enters a k n v kind number e = rw v (record { told = refl; entered = λ lent. e ∙ rw (kind, number) })
-
-  pub start-enters : s ≡ Seen.Started → log' ≡ over (7 ∷ 0 ∷ m) log → Enters s true m log log'
-  start-enters v e = rw v (record { told = refl; entered = λ lent. e })
-
-  pub refusal-enters : (q : Refusal) (n : ℕ) → s ≡ Seen.Unstarted q → n ≡ number_of q → length m + 2 ≤ length log
-      → Enters s false m log (set (set log 0 8) 1 n)
-  refusal-enters q n v e h = rw v (record { told = refl; entered = λ lent. two-over 8 n log (omega arith) ∙ rw e })
+module _ (t : Turn) (m log log' : List ℕ) where
+  pub refusal-enters : (q : Refusal) (n : ℕ) → t ≡ Turn.Unstarted q → n ≡ number_of q → length m + 2 ≤ length log
+      → Enters t m log (set (set log 0 8) 1 n)
+  refusal-enters q n v e h = rw v (record { entered = λ lent. two-over 8 n log (omega arith) ∙ rw e })

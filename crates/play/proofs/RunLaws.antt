@@ -1,17 +1,17 @@
 -- Laws of a list that is played: no event, an event after which there is no board, and an event with the events after it.
-use borrow.Author.Tests.{lt-ltb, le-ltb, ltb-true, ltb-false, eqb-false, not-true, not-false}
+use borrow.Author.Tests.{lt-ltb, le-ltb, ltb-true, ltb-false}
 use borrow.Author.Rules.{part_to_end}
 use borrow.Rule.Slice.PartMut.{mid_of, put_mid, same_len_mid}
-use mathlib.Core.Bool.{Bool, true, false, not, true≢false}
+use mathlib.Core.Bool.{Bool, true, false}
 use mathlib.Core.List.{List, [], ◌∷◌, ◌++◌, append-nil}
 use mathlib.Core.Path.{◌≡◌, refl, sym, ap, ◌∙◌}
 use Prim.Native.Nat.{ℕ, ◌+◌, ◌-◌, ◌*◌, ◌≤◌, ◌<◌}
 use native.Mathlib.Omega.{arith}
-use lib.Dec.{ltb, eqb}
+use lib.Dec.{ltb}
 use lib.ListN.{length, get_or, take, drop, length-append, length-drop, take-append-drop, drop_of_length-le}
 use lib.Seq.{length-take-le, take_at, drop_at}
+use Rattle.std.specs.Prelude.{Option, Some, None}
 use Rattle.wire.specs.Packet.{over}
-use Rattle.wire.proofs.Tests.{cond-by}
 use Rattle.wire.proofs.PacketLaws.{over-take}
 use Rattle.calls.specs.Board.{Identity}
 use Rattle.calls.specs.Lists.{Event, answered, started, unstarted, seen, run}
@@ -21,9 +21,9 @@ use Rattle.board.specs.Demand3.{Events, Trace}
 use Rattle.board.specs.View.{state_of}
 use Rattle.board.specs.declared.board.Board.{Board}
 use Rattle.play.specs.Play.{event_of, part_of, events_in, log_entry, log_of, lents_of, left_by, Plays}
-use Rattle.play.specs.Inner.{seen_of, goes_on, trace_with, trace_of, Turns, Enters, LeavesRoom, PlaysFirst, PlaysRest}
+use Rattle.play.specs.Inner.{event_as, part_as, Decodes, seen_of, board_after, trace_on, trace_of, Turns, Enters, LeavesRoom, PlaysRest, GoesOn}
 use Rattle.play.specs.declared.First.{First}
-use Rattle.play.specs.declared.Seen.{Seen}
+use Rattle.play.specs.declared.event.EventKind.{EventKind}
 use Rattle.play.specs.declared.Turn.{Turn}
 use Rattle.play.proofs.Laws.{over-append, over-drop}
 
@@ -54,18 +54,13 @@ module _ (store room : ℕ) (lent : List ℕ) where
   one_more (k ∷ w ∷ es) h r n e = rw (le-ltb room (store + 2) r, e)
 
 -- with no event, or no room, nothing is played
-module _ (b : Board) (i : Identity) (st : BoardState) (es m lent log : List ℕ) where
+module _ (i : Identity) (st : BoardState) (es m lent log : List ℕ) where
   abbrev Nothing : Type 0
-  Nothing = PlaysFirst (record { board = b; part = 0; more = false }) i st es m m lent lent log log
+  Nothing = Plays (run board_kind i st m (events_in (length m) (length log) es lent)) m m lent lent log log
 
   nothing : events_in (length m) (length log) es lent ≡ [] → Nothing
   unfolding left_by lents_of log_of over run
-  nothing e =
-      record {
-        ends = λ _. rw e (record { store = refl; lent = refl; log = refl });
-        leaves = λ f. absurd (true≢false (sym f));
-        goes = λ f. absurd (true≢false (sym f));
-      }
+  nothing e = rw e (record { store = refl; lent = refl; log = refl })
 
   pub no_event : length es < 2 → Nothing
   no_event h = nothing (none-few _ _ lent es h)
@@ -73,7 +68,7 @@ module _ (b : Board) (i : Identity) (st : BoardState) (es m lent log : List ℕ)
   pub no_room : (full : Bool) → full ≡ ltb (length log) (length m + 2) → full ≡ true → Nothing
   no_room full told e = nothing (none-room _ _ lent es (ltb-true _ _ (sym told ∙ e)))
 
--- ---- what a start shows comes of no other event
+-- ---- what a start shows comes of no other event than a cut, which is lent nothing
 
 abbrev shows_start : Trace → Bool
 shows_start [] = false
@@ -81,162 +76,140 @@ shows_start (answered a lent m ∷ os) = false
 shows_start (started m ∷ os) = true
 shows_start (unstarted n ∷ os) = true
 
-module _ (i : Identity) (st : BoardState) (m : List ℕ) (es : Events) where
-  abbrev NoStart : Event Call → Type 0
-  NoStart e = shows_start (run board_kind i st m (e ∷ es)) ≡ false
-
-  no_start : (k : ℕ) (lent : List ℕ) → k ≤ 257 → NoStart (event_of k lent)
-  unfolding event_of run seen
-  no_start k lent h =
-      cond-by NoStart (ltb k 256) _ _ (λ _. refl)
-      (λ a. cond-by NoStart (eqb k 256) _ _ (λ _. refl)
-      (λ b. cond-by NoStart (eqb k 257) _ _ (λ _. refl)
-      (λ d. absurd (omega (arith, ltb-false k 256 a, eqb-false k 256 b, eqb-false k 257 d)))))
+lent_nothing : (i : Identity) (st : BoardState) (m : List ℕ) (k : EventKind) (lent : List ℕ) (wanted left : ℕ)
+    → shows_start (run board_kind i st m (event_as k lent ∷ [])) ≡ true → part_as k wanted left ≡ 0
+unfolding run seen
+lent_nothing i st m (EventKind.Byte b) lent wanted left e = cc
+lent_nothing i st m EventKind.Gap lent wanted left e = cc
+lent_nothing i st m EventKind.Step lent wanted left e = cc
+lent_nothing i st m EventKind.Cut lent wanted left e = refl
 
 -- ---- an event and its entry
 
--- a board after an event: the event's part of a trace
-module _ (b : Board) (i : Identity) (m m' part : List ℕ) (es : Events) where
-  trace_log : (s : Seen) → goes_on s ≡ true
-      → log_of (trace_with s b i m' part es) ≡ log_entry (seen_of s m' part) ++ log_of (run board_kind i (state_of b) m' es)
-  unfolding log_of
-  trace_log (Seen.Answered a) e = refl
-  trace_log Seen.Started e = refl
-  trace_log (Seen.Unstarted r) e = absurd (true≢false (sym e))
-
-  trace_left : (s : Seen) → goes_on s ≡ true → left_by (trace_with s b i m' part es) m ≡ left_by (run board_kind i (state_of b) m' es) m'
+-- a board after an event: the event's part of what a trace leaves, and the size of its entry
+module _ (m m' part : List ℕ) (b : Board) where
+  left_on : (t : Turn) → board_after t ≡ Some b → (os : Trace) → left_by (seen_of t m' part ∷ os) m ≡ left_by os m'
   unfolding left_by
-  trace_left (Seen.Answered a) e = refl
-  trace_left Seen.Started e = refl
-  trace_left (Seen.Unstarted r) e = absurd (true≢false (sym e))
+  left_on (Turn.Answered d) e os = refl
+  left_on (Turn.Started u) e os = refl
+  left_on (Turn.Unstarted r) e os = cc
 
-entry-size : (m part : List ℕ) (s : Seen) → goes_on s ≡ true → length (log_entry (seen_of s m part)) ≡ length m + 2
-entry-size m part (Seen.Answered a) e = omega arith
-entry-size m part Seen.Started e = omega arith
-entry-size m part (Seen.Unstarted r) e = absurd (true≢false (sym e))
+  entry-size : (t : Turn) → board_after t ≡ Some b → length (log_entry (seen_of t m' part)) ≡ length m' + 2
+  entry-size (Turn.Answered d) e = omega arith
+  entry-size (Turn.Started u) e = omega arith
+  entry-size (Turn.Unstarted r) e = cc
 
--- what is known after them: k and w are the event's two numbers, n and `part` its part of what is lent, before and after it
-record Known (t : Turn) (i : Identity) (st : BoardState) (k w n : ℕ) (m m' lent part log log' : List ℕ) : Type 0 where
-  turned : Turns t i st (event_of k (take n lent)) m m' part
-  entered : (l : List ℕ) → log' ≡ over (log_entry (seen_of t.seen m' l)) log
-  part_is : n ≡ part_of k w (length lent)
+-- what is known after them: the event wants w bytes, n and `part` are its part of what is lent, before and after it
+record Known (t : Turn) (i : Identity) (st : BoardState) (k : EventKind) (w n : ℕ) (m m' lent part log log' : List ℕ) : Type 0 where
+  turned : Turns t i st (event_as k (take n lent)) m m' part
+  entered : Enters t m' log log'
+  part_is : n ≡ part_as k w (length lent)
   part_size : length part ≡ n
   store_size : length m' ≡ length m
 
-module _ {i : Identity} {st : BoardState} {k w n : ℕ} {m m' lent part log log' : List ℕ} where
+module _ {i : Identity} {st : BoardState} {k : EventKind} {w n : ℕ} {m m' lent part log log' : List ℕ} where
   -- a start has no part of what is lent
   no_part : (t : Turn) → Known t i st k w n m m' lent part log log' → shows_start (trace_of t i m' part []) ≡ true → part ≡ []
-  unfolding part_of
   no_part t h e =
-      cond-by (λ (x : ℕ). length part ≡ x → part ≡ []) (ltb 257 k) _ _ (λ _ z. drop_of_length-le part {i = 0} (omega arith))
-      (λ f _. absurd (true≢false (sym e ∙ ap shows_start (h.turned.traced []) ∙ no_start i st m [] k (take n lent) (ltb-false 257 k f))))
-      (h.part_size ∙ h.part_is)
+      let none : part_as k w (length lent) ≡ 0 =
+      lent_nothing i st m k (take n lent) w (length lent) (sym (ap shows_start (h.turned.traced [])) ∙ e) in
+      drop_of_length-le part {i = 0} (omega (arith, h.part_size, h.part_is))
 
   -- no board after it
-  stops : (b : Board) (s : Seen) → Known (record { board = b; seen = s }) i st k w n m m' lent part log log' → goes_on s ≡ false → (es : Events)
-      → Plays (run board_kind i st m (event_of k (take n lent) ∷ es)) m m' lent (part ++ drop n lent) log log'
+  stops : (t : Turn) → Known t i st k w n m m' lent part log log' → board_after t ≡ None → (es : Events)
+      → Plays (run board_kind i st m (event_as k (take n lent) ∷ es)) m m' lent (part ++ drop n lent) log log'
   unfolding left_by lents_of log_of over
-  stops b (Seen.Answered a) t e es = absurd (true≢false e)
-  stops b Seen.Started t e es = absurd (true≢false e)
-  stops b (Seen.Unstarted r) t e es =
-      let none = no_part (record { board = b; seen = Seen.Unstarted r }) t refl in
-      let zero : n ≡ 0 = sym t.part_size ∙ ap length none in
-      rw (← t.turned.traced es) (record { store = t.turned.kept refl; lent = rw (none, zero); log = t.entered [] })
+  stops (Turn.Answered d) h e es = absurd cc
+  stops (Turn.Started b) h e es = absurd cc
+  stops (Turn.Unstarted r) h e es =
+      let none = no_part (Turn.Unstarted r) h refl in
+      let zero : n ≡ 0 = sym h.part_size ∙ ap length none in
+      rw (← h.turned.traced es) (record { store = h.turned.kept refl; lent = rw (none, zero); log = h.entered.entered [] })
 
   -- a board after it
-  trace_lent : (b : Board) (s : Seen) → Known (record { board = b; seen = s }) i st k w n m m' lent part log log' → goes_on s ≡ true → (es : Events)
-      → lents_of (trace_with s b i m' part es) ≡ part ++ lents_of (run board_kind i (state_of b) m' es)
+  lent_on : (b : Board) (t : Turn) → Known t i st k w n m m' lent part log log' → board_after t ≡ Some b → (os : Trace)
+      → lents_of (seen_of t m' part ∷ os) ≡ part ++ lents_of os
   unfolding lents_of
-  trace_lent b (Seen.Answered a) t e es = refl
-  trace_lent b Seen.Started t e es = rw (no_part (record { board = b; seen = Seen.Started }) t refl)
-  trace_lent b (Seen.Unstarted r) t e es = absurd (true≢false (sym e))
+  lent_on b (Turn.Answered d) h e os = refl
+  lent_on b (Turn.Started u) h e os = rw (no_part (Turn.Started u) h refl)
+  lent_on b (Turn.Unstarted r) h e os = cc
 
-  entry-room : (t : Turn) → Known t i st k w n m m' lent part log log' → goes_on t.seen ≡ true
-      → length (log_entry (seen_of t.seen m' part)) ≡ length m + 2
-  entry-room t h e = entry-size m' part t.seen e ∙ rw h.store_size
+  module _ (t : Turn) (h : Known t i st k w n m m' lent part log log') (b : Board) (e : board_after t ≡ Some b) where
+    entry-room : length (log_entry (seen_of t m' part)) ≡ length m + 2
+    entry-room = entry-size m m' part b t e ∙ rw h.store_size
 
-  goes : (t : Turn) → Known t i st k w n m m' lent part log log' → goes_on t.seen ≡ true → (es : Events) (m'' rest log'' : List ℕ)
-      → Plays (run board_kind i (state_of t.board) m' es) m' m'' (drop n lent) rest (drop (length m + 2) log) log''
-      → Plays (run board_kind i st m (event_of k (take n lent) ∷ es)) m m'' lent (part ++ rest) log (log_entry (seen_of t.seen m' part) ++ log'')
-  goes t h e es m'' rest log'' p =
-      let b = t.board in
-      let s = t.seen in
-      rw (← h.turned.traced es)
-      (record {
-        store = p.store ∙ sym (trace_left b i m m' part es s e);
-        lent = rw (p.lent, trace_lent b s h e es) (over-append part _ lent n h.part_size);
-        log = rw (p.log, trace_log b i m m' part es s e) (over-append (log_entry (seen_of s m' part)) _ log (length m + 2) (entry-room t h e));
-      })
+    goes : (es : Events) (m'' rest log'' : List ℕ)
+        → Plays (run board_kind i (state_of b) m' es) m' m'' (drop n lent) rest (drop (length m + 2) log) log''
+        → Plays (run board_kind i st m (event_as k (take n lent) ∷ es)) m m'' lent (part ++ rest) log (log_entry (seen_of t m' part) ++ log'')
+    unfolding log_of
+    goes es m'' rest log'' p =
+        let os = run board_kind i (state_of b) m' es in
+        let traced : seen_of t m' part ∷ os ≡ run board_kind i st m (event_as k (take n lent) ∷ es) =
+        ap (λ (o : Option Board). seen_of t m' part ∷ trace_on o i m' es) (sym e) ∙ h.turned.traced es in
+        rw (← traced)
+        (record {
+          store = p.store ∙ sym (left_on m m' part b t e os);
+          lent = rw (p.lent, lent_on b t h e os) (over-append part _ lent n h.part_size);
+          log = rw p.log (over-append (log_entry (seen_of t m' part)) _ log (length m + 2) entry-room);
+        })
 
 -- ---- the first event of a list
 
-module _ {i : Identity} {st : BoardState} {n : ℕ} {m m' lent part log log' : List ℕ} (es : List ℕ) (two : 2 ≤ length es)
-    (room : length m + 2 ≤ length log) (t : Turn) (h : Known t i st (get_or es 0 0) (get_or es 1 0) n m m' lent part log log') where
+module _ {i : Identity} {st : BoardState} {k : EventKind} {n : ℕ} {m m' lent part log log' : List ℕ} (es : List ℕ) (two : 2 ≤ length es)
+    (room : length m + 2 ≤ length log) (t : Turn) (h : Known t i st k (get_or es 1 0) n m m' lent part log log')
+    (read : Decodes (get_or es 0 0) k) where
   -- it is the one that was played
   first_played : events_in (length m) (length log) es lent
-      ≡ event_of (get_or es 0 0) (take n lent) ∷ events_in (length m) (length log - (length m + 2)) (drop 2 es) (drop n lent)
-  first_played = one_more (length m) (length log) lent es two room n h.part_is
+      ≡ event_as k (take n lent) ∷ events_in (length m) (length log - (length m + 2)) (drop 2 es) (drop n lent)
+  first_played =
+      one_more (length m) (length log) lent es two room n (h.part_is ∙ read.part _ _)
+      ∙ ap (λ (e : Event Call). e ∷ events_in (length m) (length log - (length m + 2)) (drop 2 es) (drop n lent)) (sym (read.event (take n lent)))
 
-  played-last : goes_on t.seen ≡ false
-      → Plays (run board_kind i st m (events_in (length m) (length log) es lent)) m m' lent (part ++ drop n lent) log log'
-  played-last e = rw first_played (stops t.board t.seen h e _)
+  played-last : board_after t ≡ None → Plays (run board_kind i st m (events_in (length m) (length log) es lent)) m m' lent (part ++ drop n lent) log log'
+  played-last e = rw first_played (stops t h e _)
 
-  module _ (e : goes_on t.seen ≡ true) where
+  module _ (b : Board) (e : board_after t ≡ Some b) where
     lent-rest : drop n (part ++ drop n lent) ≡ drop n lent
     lent-rest = drop_at part (drop n lent) n h.part_size
 
     log-rest : drop (length m' + 2) log' ≡ drop (length m + 2) log
-    log-rest = rw (h.store_size, h.entered part) (over-drop _ log (length m + 2) (entry-room t h e))
+    log-rest = rw (h.store_size, h.entered.entered part) (over-drop _ log (length m + 2) (entry-room t h b e))
 
-    log-first : take (length m' + 2) log' ≡ log_entry (seen_of t.seen m' part)
-    log-first = rw (h.store_size, h.entered part) (over-take _ log (length m + 2) (entry-room t h e))
+    log-first : take (length m' + 2) log' ≡ log_entry (seen_of t m' part)
+    log-first = rw (h.store_size, h.entered.entered part) (over-take _ log (length m + 2) (entry-room t h b e))
 
-    played-on : (more : Bool) (m'' lent'' log'' : List ℕ)
-        → PlaysRest (record { board = t.board; part = n; more = more }) i es m' m'' (part ++ drop n lent) lent'' log' log''
+    played-on : (m'' lent'' log'' : List ℕ) → PlaysRest (record { board = b; part = n }) i es m' m'' (part ++ drop n lent) lent'' log' log''
         → Plays (run board_kind i st m (events_in (length m) (length log) es lent)) m m'' lent lent'' log log''
-    played-on more m'' lent'' log'' p =
+    played-on m'' lent'' log'' p =
         let left : length (drop (length m + 2) log) ≡ length log - (length m + 2) = length-drop (length m + 2) log in
         let later = rw (lent-rest, log-rest, left, h.store_size) at p.plays in
         let lent-first : take n lent'' ≡ part = p.lent_kept ∙ take_at part (drop n lent) n h.part_size in
         let whole-lent : part ++ drop n lent'' ≡ lent'' = rw (← lent-first) (take-append-drop n lent'') in
-        let whole-log : log_entry (seen_of t.seen m' part) ++ drop (length m + 2) log'' ≡ log'' =
+        let whole-log : log_entry (seen_of t m' part) ++ drop (length m + 2) log'' ≡ log'' =
         rw (← log-first, ← p.log_kept, h.store_size) (take-append-drop (length m + 2) log'') in
-        rw first_played (rw (whole-lent, whole-log) at (goes t h e _ m'' _ _ later))
+        rw first_played (rw (whole-lent, whole-log) at (goes t h b e _ m'' _ _ later))
 
 -- what the parts of the first event's play give together
-module _ (t : Turn) (more : Bool) (n : ℕ) (i : Identity) (st : BoardState) (es m m' lent part log log' : List ℕ)
-    (turned : Turns t i st (event_of (get_or es 0 0) (take n lent)) m m' part) (entered : Enters t.seen more m' log log')
-    (part_is : n ≡ part_of (get_or es 0 0) (get_or es 1 0) (length lent)) where
-  pub plays-first : n ≤ length lent → length part ≡ length (take n lent) → length m' ≡ length m → length log' ≡ length log → 2 ≤ length es
-      → length m + 2 ≤ length log → PlaysFirst (record { board = t.board; part = n; more = more }) i st es m m' lent (part ++ drop n lent) log log'
-  plays-first fits sized store_size log-size two room =
-      let part_size : length part ≡ n = sized ∙ length-take-le n lent fits in
-      let known : Known t i st (get_or es 0 0) (get_or es 1 0) n m m' lent part log log' =
-      record { turned = turned; entered = entered.entered; part_is = part_is; part_size = part_size; store_size = store_size } in
+module _ (t : Turn) (k : EventKind) (n : ℕ) (i : Identity) (st : BoardState) (es m m' lent part log log' : List ℕ)
+    (turned : Turns t i st (event_as k (take n lent)) m m' part) (entered : Enters t m' log log') (read : Decodes (get_or es 0 0) k)
+    (part_is : n ≡ part_as k (get_or es 1 0) (length lent)) (fits : n ≤ length lent) (sized : length part ≡ length (take n lent))
+    (store_size : length m' ≡ length m) (two : 2 ≤ length es) (room : length m + 2 ≤ length log)
+    (r : Option Board) (after : r ≡ board_after t) where
+  known : Known t i st k (get_or es 1 0) n m m' lent part log log'
+  known =
+      record { turned = turned; entered = entered; part_is = part_is; part_size = sized ∙ length-take-le n lent fits; store_size = store_size }
+
+  pub plays-last : r ≡ None
+      → Plays (run board_kind i st m (events_in (length m) (length log) es lent)) m m' lent (part ++ drop n lent) log log'
+  plays-last e = played-last es two room t known read (sym after ∙ e)
+
+  pub plays-on : (b : Board) → r ≡ Some b → length log' ≡ length log
+      → GoesOn (record { board = b; part = n }) i st es m m' lent (part ++ drop n lent) log log'
+  plays-on b e log-size =
       record {
-        leaves = λ _. record { two = two; part = rw length-append (omega arith); room = omega arith };
-        ends = λ e. played-last es two room t known (sym entered.told ∙ e);
-        goes = λ e. played-on es two room t known (sym entered.told ∙ e) more;
+        leaves = record { two = two; part = rw length-append (omega (arith, known.part_size)); room = omega arith };
+        goes = played-on es two room t known read b (sym after ∙ e);
       }
-
-module _ (f : First) (i : Identity) (st : BoardState) (es m m' lent lent' log log' : List ℕ)
-    (first : PlaysFirst f i st es m m' lent lent' log log') where
-  pub ends-first : not f.more ≡ true → Plays (run board_kind i st m (events_in (length m) (length log) es lent)) m m' lent lent' log log'
-  ends-first e = first.ends (not-true f.more e)
-
-  module _ (e : not f.more ≡ false) where
-    pub leaves-two : 2 ≤ length es
-    leaves-two = (first.leaves (not-false f.more e)).two
-
-    pub leaves-part : f.part ≤ length lent'
-    leaves-part = (first.leaves (not-false f.more e)).part
-
-    pub leaves-room : length m' + 2 ≤ length log'
-    leaves-room = (first.leaves (not-false f.more e)).room
-
-    pub goes_on_lem : (m'' lent'' log'' : List ℕ) → PlaysRest f i es m' m'' lent' lent'' log' log''
-        → Plays (run board_kind i st m (events_in (length m) (length log) es lent)) m m'' lent lent'' log log''
-    goes_on_lem = first.goes (not-false f.more e)
 
 -- a log that is not full has room for an entry
 pub room-left : (full : Bool) (log room : ℕ) → full ≡ ltb log room → full ≡ false → room ≤ log

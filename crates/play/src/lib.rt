@@ -6,34 +6,47 @@ ghost use Rattle.wire.specs.Packet.{over};
 ghost use Rattle.board.specs.View.{state_of, answer_of, given_identity};
 ghost use Rattle.board.specs.BoardKind.{board_kind};
 ghost use Rattle.calls.specs.Lists.{run};
-ghost use Rattle.play.specs.Play.{event_of, events_in, part_of, number_in, Plays};
+ghost use Rattle.play.specs.Play.{events_in, number_in, Plays};
 ghost use Rattle.play.specs.Erase.{ErasePlayed};
-ghost use Rattle.play.specs.Inner.{Turns, Restarts, Enters, LeavesRoom, PlaysFirst, PlaysRest};
+ghost use Rattle.play.specs.Inner.{event_as, board_after, Turns, Restarts, Enters, LeavesRoom, PlaysFirst, PlaysRest};
 
-use board::board::{Answer, Board, Done, StartAnswer};
+pub mod event;
+
+use crate::event::EventKind;
+use board::board::{Answer, Board, Done};
 use wire::refusal::Refusal;
 
-// What is seen of an event.
+// What is seen of an event: the answer of a call, with the board after it; or of a power cut that its start gave a board, or was refused.
 #[derive(Clone, Copy)]
-pub enum Seen {
-    Answered(Answer),
-    Started,
+pub enum Turn {
+    Answered(Done),
+    Started(Board),
     Unstarted(Refusal),
 }
 
-// What is seen of an event, and the board after it.
-#[derive(Clone, Copy)]
-pub struct Turn {
-    pub board: Board,
-    pub seen: Seen,
+impl Turn {
+    // The board after it.
+    fn board(self) -> Option<Board>
+        ensures { result ≡ board_after self }
+    {
+        match self {
+            Turn::Answered(done) => Some(done.board),
+            Turn::Started(board) => Some(board),
+            Turn::Unstarted(_) => None,
+        }
+    }
 }
 
-// The board after the first event, how many bytes of what is lent it had, and whether events may come after it.
+// The first number of a log's entry for a start, and for a refused one. An answer has the number of its kind.
+pub const STARTED: usize = 7;
+
+pub const UNSTARTED: usize = 8;
+
+// The board after the first event, where there is one, and how many bytes of what is lent the event had.
 #[derive(Clone, Copy)]
 pub struct First {
     pub board: Board,
     pub part: usize,
-    pub more: bool,
 }
 
 // Plays events on a board and a store. Two numbers are an event: a byte, 256 for a gap, 257 for a step or another for a power cut with its
@@ -52,11 +65,9 @@ pub fn play(
 )
     ensures { Plays (run board_kind (given_identity id serial.now model.now) (state_of board) store.old (events_in (length store.old) (length log.old) events.now lent.old)) store.old store.new lent.old lent.new log.old log.new }
 {
-    let first = play_first(board, id, serial, model, store, events, lent, log);
-    if !first.more {
-        return;
+    if let Some(first) = play_first(board, id, serial, model, store, events, lent, log) {
+        play_rest(first, id, serial, model, store, events, lent, log);
     }
-    play_rest(first, id, serial, model, store, events, lent, log)
 }
 
 // Gives a board a byte, and where it begins an erase plays events after it; whether it did. With the board's own identity, what is left is what demand 3
@@ -76,16 +87,14 @@ pub fn play_erase(
     ensures { ErasePlayed result (given_identity id serial.now model.now) b (state_of board) store.old store.new reply.old reply.new events.now lent.old lent.new log.old log.new }
 {
     let done = board.byte(store, b, reply);
-    let answer = done.answer;
-    let next = done.board;
-    let Answer::Begun = answer else {
+    let Answer::Begun = done.answer else {
         return false;
     };
-    play(next, id, serial, model, store, events, lent, log);
+    play(done.board, id, serial, model, store, events, lent, log);
     true
 }
 
-// Plays the first event, where there is one, and room for its entry.
+// Plays the first event, where there is one, and room for its entry; the board for the events after it, where they may come.
 fn play_first(
     board: Board,
     id: u8,
@@ -95,27 +104,19 @@ fn play_first(
     events: &[u16],
     lent: &mut [u8],
     log: &mut [usize],
-) -> First
+) -> Option<First>
     ensures { PlaysFirst result (given_identity id serial.now model.now) (state_of board) events.now store.old store.new lent.old lent.new log.old log.new }
 {
     if events.len() < 2 {
-        return First {
-            board,
-            part: 0,
-            more: false,
-        };
+        return None;
     }
     if is_full(log.len(), store.len()) {
-        return First {
-            board,
-            part: 0,
-            more: false,
-        };
+        return None;
     }
     play_event(board, id, serial, model, store, events, lent, log)
 }
 
-// Plays the first event and writes its entry.
+// Plays the first event and writes its entry; the board for the events after it, which a refused start does not leave.
 fn play_event(
     board: Board,
     id: u8,
@@ -125,20 +126,17 @@ fn play_event(
     events: &[u16],
     lent: &mut [u8],
     log: &mut [usize],
-) -> First
+) -> Option<First>
     requires { (2 ≤ length events.now) × (length store.old + 2 ≤ length log.old) }
     ensures { PlaysFirst result (given_identity id serial.now model.now) (state_of board) events.now store.old store.new lent.old lent.new log.old log.new }
 {
-    let event = events[0];
-    let n = part(event, events[1], lent.len());
-    let turn = turn_of(board, id, serial, model, store, event, &mut lent[..n]);
-    let seen = turn.seen;
-    let next = turn.board;
-    let more = enter(seen, store, log);
-    First {
-        board: next,
-        part: n,
-        more,
+    let kind = EventKind::from(events[0]);
+    let part = kind.part(events[1], lent.len());
+    let turn = turn_of(board, id, serial, model, store, kind, &mut lent[..part]);
+    enter(turn, store, log);
+    match turn.board() {
+        Some(board) => Some(First { board, part }),
+        None => None,
     }
 }
 
@@ -157,17 +155,15 @@ fn play_rest(
     requires { LeavesRoom first events.now store.old lent.old log.old }
     ensures { PlaysRest first (given_identity id serial.now model.now) events.now store.old store.new lent.old lent.new log.old log.new }
 {
-    let next = first.board;
-    let n = first.part;
     let used = store.len() + 2;
     play(
-        next,
+        first.board,
         id,
         serial,
         model,
         store,
         &events[2..],
-        &mut lent[n..],
+        &mut lent[first.part..],
         &mut log[used..],
     )
 }
@@ -182,19 +178,6 @@ fn is_full(log: usize, store: usize) -> bool
     log - 2 < store
 }
 
-// How long an event's part of what is lent is: a cut has none, and none is longer than what is left.
-fn part(event: u16, wanted: u16, left: usize) -> usize
-    ensures { (result ≡ part_of event wanted left) × (result ≤ left) }
-{
-    if 257 < event {
-        return 0;
-    }
-    if left < wanted as usize {
-        return left;
-    }
-    wanted as usize
-}
-
 // One event. A refused start leaves the store as it was.
 fn turn_of(
     board: Board,
@@ -202,35 +185,16 @@ fn turn_of(
     serial: &[u8],
     model: &[u8],
     store: &mut [u8],
-    event: u16,
+    kind: EventKind,
     lent: &mut [u8],
 ) -> Turn
-    ensures { Turns result (given_identity id serial.now model.now) (state_of board) (event_of event lent.old) store.old store.new lent.new }
+    ensures { Turns result (given_identity id serial.now model.now) (state_of board) (event_as kind lent.old) store.old store.new lent.new }
 {
-    if event < 256 {
-        let done = board.byte(store, event as u8, lent);
-        return answered(done);
-    }
-    if event == 256 {
-        let done = board.gap(store);
-        return answered(done);
-    }
-    if event == 257 {
-        let done = board.step(store, lent);
-        return answered(done);
-    }
-    start_again(store, id, serial, model)
-}
-
-// The turn of a call: the board after it, and its answer is what is seen.
-fn answered(done: Done) -> Turn
-    ensures { result ≡ record { board = done.board; seen = Seen.Answered done.answer } }
-{
-    let answer = done.answer;
-    let next = done.board;
-    Turn {
-        board: next,
-        seen: Seen::Answered(answer),
+    match kind {
+        EventKind::Byte(b) => Turn::Answered(board.byte(store, b, lent)),
+        EventKind::Gap => Turn::Answered(board.gap(store)),
+        EventKind::Step => Turn::Answered(board.step(store, lent)),
+        EventKind::Cut => start_again(store, id, serial, model),
     }
 }
 
@@ -238,43 +202,26 @@ fn answered(done: Done) -> Turn
 fn start_again(store: &mut [u8], id: u8, serial: &[u8], model: &[u8]) -> Turn
     ensures { Restarts result (given_identity id serial.now model.now) store.old store.new }
 {
-    let started = board::board::start(store, id, serial, model);
-    let answer = started.answer;
-    let next = started.board;
-    match answer {
-        StartAnswer::Ready => {
-            return Turn {
-                board: next,
-                seen: Seen::Started,
-            };
-        }
-        StartAnswer::Refused(refusal) => {
-            return Turn {
-                board: next,
-                seen: Seen::Unstarted(refusal),
-            };
-        }
+    match board::board::start(store, id, serial, model) {
+        Ok(board) => Turn::Started(board),
+        Err(refusal) => Turn::Unstarted(refusal),
     }
 }
 
-// Writes what is seen of an event at the start of the log; whether there is a board after it.
-fn enter(seen: Seen, store: &[u8], log: &mut [usize]) -> bool
+// Writes what is seen of an event at the start of the log.
+fn enter(turn: Turn, store: &[u8], log: &mut [usize])
     requires { length store.now + 2 ≤ length log.old }
-    ensures { Enters seen result store.now log.old log.new }
+    ensures { Enters turn store.now log.old log.new }
 {
-    match seen {
-        Seen::Answered(answer) => {
-            put_entry(answer.kind() as usize, number_in(answer), store, log);
-            return true;
+    match turn {
+        Turn::Answered(done) => {
+            let kind = usize::from(done.answer.kind());
+            put_entry(kind, number_in(done.answer), store, log);
         }
-        Seen::Started => {
-            put_entry(7, 0, store, log);
-            return true;
-        }
-        Seen::Unstarted(refusal) => {
-            log[0] = 8;
+        Turn::Started(_) => put_entry(STARTED, 0, store, log),
+        Turn::Unstarted(refusal) => {
+            log[0] = UNSTARTED;
             log[1] = refusal.number() as usize;
-            return false;
         }
     }
 }
@@ -286,21 +233,18 @@ fn put_entry(kind: usize, number: usize, store: &[u8], log: &mut [usize])
 {
     log[0] = kind;
     log[1] = number;
-    let mut i: usize = 0;
-    while i < store.len() {
-        log[i + 2] = store[i] as usize;
-        i += 1;
+    for (i, b) in store.iter().enumerate() {
+        log[i + 2] = *b as usize;
     }
 }
 
+// A refusal's number or a reply's length; 0 for another answer.
 fn number_in(answer: Answer) -> usize
     ensures { result ≡ number_in (answer_of answer) }
 {
-    if let Answer::Refused(refusal) = answer {
-        return refusal.number() as usize;
+    match answer {
+        Answer::Refused(refusal) => usize::from(refusal.number()),
+        Answer::Reply(n) => n,
+        _ => 0,
     }
-    if let Answer::Reply(n) = answer {
-        return n;
-    }
-    0
 }

@@ -2,11 +2,7 @@
 // full.
 ghost use Rattle.std.specs.Prelude.{◌≤◌, length};
 
-const GAP: u16 = 256;
-
-const STEP: u16 = 257;
-
-const CUT: u16 = 258;
+use play::event::EventKind;
 
 // The first part: an erase that was accepted loses its power twice, and then ends. Where it ends.
 pub fn erase_with_cuts(events: &mut [u16]) -> usize
@@ -14,12 +10,12 @@ pub fn erase_with_cuts(events: &mut [u16]) -> usize
 {
     let mut n = put_steps(events, 0, 40);
     n = put_refused(events, n);
-    n = put(events, n, CUT, 0);
+    n = put(events, n, EventKind::Cut, 0);
     n = put_steps(events, n, 100);
-    n = put(events, n, CUT, 0);
+    n = put(events, n, EventKind::Cut, 0);
     n = put_steps(events, n, 127);
-    n = put(events, n, 0x01, 64);
-    put(events, n, STEP, 64)
+    n = put(events, n, EventKind::Byte(0x01), 64);
+    put(events, n, EventKind::Step, 64)
 }
 
 // Calls that are refused while an erase is pending: two with 9, and three with 10 for their short buffers.
@@ -27,11 +23,11 @@ fn put_refused(events: &mut [u16], at: usize) -> usize
     requires { at ≤ length events.old }
     ensures { (at ≤ result) × (result ≤ length events.new) }
 {
-    let mut n = put(events, at, 0x01, 64);
-    n = put(events, n, GAP, 64);
-    n = put(events, n, 0x01, 63);
-    n = put(events, n, STEP, 63);
-    put(events, n, STEP, 0)
+    let mut n = put(events, at, EventKind::Byte(0x01), 64);
+    n = put(events, n, EventKind::Gap, 64);
+    n = put(events, n, EventKind::Byte(0x01), 63);
+    n = put(events, n, EventKind::Step, 63);
+    put(events, n, EventKind::Step, 0)
 }
 
 // The second part: requests, an erase that is not cut, so that its reply is owed, the power status, and a cut with a read of the tag after it.
@@ -42,10 +38,10 @@ pub fn after_erase(events: &mut [u16], at: usize) -> usize
 {
     let mut n = put_requests(events, at);
     n = put_steps(events, n, 3);
-    n = put(events, n, 0x01, 64);
+    n = put(events, n, EventKind::Byte(0x01), 64);
     n = put_steps(events, n, 125);
     n = put_bytes(events, n, b"\x010A0A06\x0201D6\x03t\x0D");
-    n = put(events, n, CUT, 0);
+    n = put(events, n, EventKind::Cut, 0);
     put_bytes(events, n, b"\x010A0A06\x02F010\x03p\x0D")
 }
 
@@ -65,7 +61,7 @@ fn put_requests(events: &mut [u16], at: usize) -> usize
         n,
         b"\x010A0E0A\x0200100032\x03t\x0D\x010A0E0A\x0200100033\x03t\x0D\x010A0C06\x02",
     );
-    n = put(events, n, GAP, 64);
+    n = put(events, n, EventKind::Gap, 64);
     put_bytes(
         events,
         n,
@@ -79,10 +75,8 @@ fn put_bytes(events: &mut [u16], at: usize, bytes: &[u8]) -> usize
     ensures { (at ≤ result) × (result ≤ length events.new) }
 {
     let mut n = at;
-    let mut i: usize = 0;
-    while i < bytes.len() {
-        n = put(events, n, bytes[i] as u16, 64);
-        i += 1;
+    for b in bytes {
+        n = put(events, n, EventKind::Byte(*b), 64);
     }
     n
 }
@@ -93,23 +87,21 @@ fn put_steps(events: &mut [u16], at: usize, times: u8) -> usize
     ensures { (at ≤ result) × (result ≤ length events.new) }
 {
     let mut n = at;
-    let mut i: u8 = 0;
-    while i < times {
-        n = put(events, n, STEP, 64);
-        i += 1;
+    for _ in 0..times {
+        n = put(events, n, EventKind::Step, 64);
     }
     n
 }
 
 // An event behind those that are there.
-fn put(events: &mut [u16], at: usize, event: u16, lent: u16) -> usize
+fn put(events: &mut [u16], at: usize, event: EventKind, lent: u16) -> usize
     requires { at ≤ length events.old }
     ensures { (at ≤ result) × (result ≤ length events.new) }
 {
     if events.len() - at < 2 {
         return events.len();
     }
-    events[at] = event;
+    events[at] = u16::from(event);
     events[at + 1] = lent;
     at + 2
 }

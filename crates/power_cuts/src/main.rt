@@ -14,7 +14,7 @@ fn main(rt: HostRuntime) {
     let middle = list::erase_with_cuts(&mut events);
     let end = list::after_erase(&mut events, middle);
     if end == 1200 {
-        tell::say(&rt, b"the list does not fit its array\n");
+        let _ = rt.println("the list does not fit its array");
         return;
     }
     play_and_compare(&rt, &events[..end], middle);
@@ -70,22 +70,16 @@ fn play_whole(
 
 // Something in each spare byte, as an older use may have left it: the number of its place. So each step of an erase shows there.
 fn fill_spare(store: &mut [u8; 128]) {
-    let mut place: u8 = 79;
-    while place < 128 {
-        store[place as usize] = place;
-        place += 1;
+    for place in 79u8..128 {
+        store[usize::from(place)] = place;
     }
 }
 
 // And in the six spare bits behind each program.
 fn fill_program_spare(store: &mut [u8; 128]) {
-    store[48] = 0x3F;
-    store[53] = 0x3F;
-    store[58] = 0x3F;
-    store[63] = 0x3F;
-    store[68] = 0x3F;
-    store[73] = 0x3F;
-    store[78] = 0x3F;
+    for program in 0..7 {
+        store[48 + 5 * program] = 0x3F;
+    }
 }
 
 // The board after backlight 100, the tag HOTEL, then the tag SEASIDE, program 2 from 07:00 to 23:30 on working days, and the erase request without its last
@@ -93,7 +87,7 @@ fn fill_program_spare(store: &mut [u8; 128]) {
 fn after_past(store: &mut [u8; 128]) -> Board {
     let mut reply = [0xA5u8; 64];
     let started = board::board::start(store, 1, b"SN-1", b"M");
-    let board = started.board;
+    let board = started.unwrap_or(board::board::no_board());
     after_bytes(
         board,
         store,
@@ -102,14 +96,11 @@ fn after_past(store: &mut [u8; 128]) -> Board {
     )
 }
 
-// The board after some bytes.
+// The board after some bytes. The program edges has the same lines, but no crate that both use has a place for them.
 fn after_bytes(first: Board, store: &mut [u8], bytes: &[u8], reply: &mut [u8]) -> Board {
     let mut board = first;
-    let mut i: usize = 0;
-    while i < bytes.len() {
-        let done = board.byte(store, bytes[i], reply);
-        board = done.board;
-        i += 1;
+    for b in bytes {
+        board = board.byte(store, *b, reply).board;
     }
     board
 }
@@ -118,16 +109,9 @@ fn after_bytes(first: Board, store: &mut [u8], bytes: &[u8], reply: &mut [u8]) -
 fn set_down(store: &[u8; 128], log: &mut [usize])
     requires { 130 ≤ length log.old }
 {
-    let mut i: usize = 0;
-    while i < 128 {
-        log[i + 2] = wide(store[i]);
-        i += 1;
+    for (i, b) in store.iter().enumerate() {
+        log[i + 2] = usize::from(*b);
     }
-}
-
-// A byte as a number of a log.
-fn wide(b: u8) -> usize {
-    b as usize
 }
 
 // Compares with an unused board the events whose buffers and entries begin at these places. Its own begin at the same places.
@@ -146,7 +130,7 @@ fn compare(rt: &impl Print, events: &[u16], from: usize, at: usize, lent: &[u8],
     );
 }
 
-// Plays events on an unused board, in one call, and compares. A refused start would give a board that refuses them all, and so show.
+// Plays events on an unused board, in one call, and compares. In place of a refused start stands a board that refuses them all, which would show.
 fn play_alone(
     rt: &impl Print,
     events: &[u16],
@@ -157,7 +141,7 @@ fn play_alone(
 ) {
     let mut store = layouts::unused();
     let started = board::board::start(&mut store, 1, b"SN-1", b"M");
-    let board = started.board;
+    let board = started.unwrap_or(board::board::no_board());
     play::play(
         board, 1, b"SN-1", b"M", &mut store, events, other_lent, other_log,
     );

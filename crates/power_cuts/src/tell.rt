@@ -1,19 +1,65 @@
 // What is seen of a list that was played, a line an event, and what is the same on an unused board.
-ghost use Rattle.std.specs.Prelude.{◌≡◌, ◌+◌, ◌*◌, ◌≤◌, true, length};
+ghost use Rattle.std.specs.Prelude.{◌+◌, ◌*◌, ◌≤◌, length};
 
-use wire::digits;
+use play::event::EventKind;
+use std::fmt;
+
+// The first two numbers of a log's entry: an answer by the number of its kind, or what a power cut's start gave.
+#[derive(Clone, Copy)]
+enum Entry {
+    Waiting,
+    Begun,
+    More,
+    Ended,
+    Refused(usize),
+    Reply(usize),
+    Started,
+    Unstarted,
+    Other(usize),
+}
+
+impl From<(usize, usize)> for Entry {
+    fn from(numbers: (usize, usize)) -> Self {
+        let (kind, number) = numbers;
+        match kind {
+            0 => Entry::Waiting,
+            2 => Entry::Begun,
+            3 => Entry::More,
+            4 => Entry::Ended,
+            5 => Entry::Refused(number),
+            6 => Entry::Reply(number),
+            play::STARTED => Entry::Started,
+            play::UNSTARTED => Entry::Unstarted,
+            _ => Entry::Other(kind),
+        }
+    }
+}
+
+// Its word, and a refusal's number. One that the list does not get shows the number of its kind.
+impl fmt::Display for Entry {
+    fn fmt<W: fmt::Write>(&self, f: &mut fmt::Formatter<W>) -> fmt::Result {
+        match *self {
+            Entry::Waiting => f.write_str("waiting"),
+            Entry::Begun => f.write_str("begun"),
+            Entry::More => f.write_str("more"),
+            Entry::Ended => f.write_str("ended"),
+            Entry::Refused(number) => write!(f, "refused {number}"),
+            Entry::Reply(_) => f.write_str("reply"),
+            Entry::Started => f.write_str("started"),
+            Entry::Unstarted => write!(f, "answer {}", play::UNSTARTED),
+            Entry::Other(kind) => write!(f, "answer {kind}"),
+        }
+    }
+}
 
 // Whether an erase begins, and how many bytes of the byte's own buffer were written.
 pub fn acceptance(rt: &impl Print, begun: bool, buffer: &[u8]) {
-    if begun {
-        say(
-            rt,
-            b"a board with a past begins an erase; the mark that it stores shows in event 1\n",
-        );
+    let _ = rt.println(if begun {
+        "a board with a past begins an erase; the mark that it stores shows in event 1"
     } else {
-        say(rt, b"no erase begins\n");
-    }
-    show_count(rt, count_from(0, buffer, 0));
+        "no erase begins"
+    });
+    show_count(rt, written_in(buffer));
 }
 
 // Both parts of a list, the second from `middle` on, and where the buffers of the first end in what is lent: at its size where the buffers
@@ -22,12 +68,12 @@ pub fn parts(rt: &impl Print, events: &[u16], middle: usize, lent: &[u8], log: &
     requires { (middle ≤ length events.now) × (65 * length events.now + 130 ≤ length log.now) }
     ensures { result ≤ length lent.now }
 {
-    say(rt, b"after an accepted erase, with two power cuts\n");
+    let _ = rt.println("after an accepted erase, with two power cuts");
     let from = show_part(rt, events, 0, middle, lent, 0, log);
-    say(rt, b"and from then on\n");
+    let _ = rt.println("and from then on");
     let end = show_part(rt, events, middle, events.len(), lent, from, log);
     if end == lent.len() {
-        say(rt, b"the list does not fit the lent bytes\n");
+        let _ = rt.println("the list does not fit the lent bytes");
         return end;
     }
     from
@@ -47,14 +93,15 @@ fn show_part(
     requires { (last ≤ length events.now) × (start ≤ length lent.now) × (65 * last + 130 ≤ length log.now) }
     ensures { result ≤ length lent.now }
 {
-    let mut n: u64 = 0;
+    let mut n: usize = 0;
     let mut from = start;
-    let mut i = first / 2;
-    while i < last / 2 {
+    for i in first / 2..last / 2 {
+        let at = 130 * (i + 1);
         let end = end_of(from, events[2 * i], events[2 * i + 1], lent.len());
-        i += 1;
-        show_event(rt, i, log, 130 * i, &lent[from..end]);
-        n = count_beside(n, log, 130 * i, &lent[from..end]);
+        let entry = Entry::from((log[at], log[at + 1]));
+        show_event(rt, i + 1, entry, log, at, &lent[from..end]);
+        // Memory has too few bytes for it to wrap.
+        n = n.wrapping_add(beside(entry, &lent[from..end]));
         from = end;
     }
     show_count(rt, n);
@@ -66,144 +113,67 @@ fn end_of(from: usize, event: u16, lent: u16, size: usize) -> usize
     requires { from ≤ size }
     ensures { (from ≤ result) × (result ≤ size) }
 {
-    if 257 < event {
-        return from;
-    }
-    if size - from < lent as usize {
-        return size;
-    }
-    from + lent as usize
+    from + EventKind::from(event).part(lent, size - from)
 }
 
 // How many lent bytes were written though they are no reply's.
-fn show_count(rt: &impl Print, n: u64) {
-    say(rt, b"bytes written beside replies: ");
-    say_number(rt, n);
-    say(rt, b"\n");
+fn show_count(rt: &impl Print, n: usize) {
+    let _ = println!(rt; "bytes written beside replies: {n}");
 }
 
-// The event whose entry stands at a place, and its lent buffer.
-fn show_event(rt: &impl Print, number: usize, log: &[usize], at: usize, buffer: &[u8])
+// An event with the entry that stands at a place, and its lent buffer.
+fn show_event(rt: &impl Print, number: usize, entry: Entry, log: &[usize], at: usize, buffer: &[u8])
     requires { (130 ≤ at) × (at + 130 ≤ length log.now) }
 {
-    if log[at] == 0 {
+    if let Entry::Waiting = entry {
         return;
     }
-    say_number(rt, number as u64);
-    show_answer(rt, log[at], log[at + 1], buffer);
-    show_changes(rt, log, at);
-    say(rt, b"\n");
-}
-
-// An answer by the number of its kind, with its refusal's number or its reply.
-fn show_answer(rt: &impl Print, kind: usize, number: usize, buffer: &[u8]) {
-    match kind {
-        5 => {
-            say(rt, b" refused ");
-            say_number(rt, number as u64);
-        }
-        6 => {
-            say(rt, b" reply ");
-            show_reply(rt, buffer, number);
-        }
-        _ => {
-            show_word(rt, kind);
-        }
+    let _ = print!(rt; "{number} {entry}");
+    if let Entry::Reply(count) = entry {
+        show_reply(rt, buffer, count);
     }
-}
-
-// The word of an answer that is no refusal and no reply. One that the list does not get shows the number of its kind.
-fn show_word(rt: &impl Print, kind: usize) {
-    match kind {
-        2 => {
-            say(rt, b" begun");
-        }
-        3 => {
-            say(rt, b" more");
-        }
-        4 => {
-            say(rt, b" ended");
-        }
-        7 => {
-            say(rt, b" started");
-        }
-        _ => {
-            say(rt, b" answer ");
-            say_number(rt, kind as u64);
-        }
+    // The entry of a refused start has no store.
+    if !matches!(entry, Entry::Unstarted) {
+        show_changes(rt, &log[at - 128..at], &log[at + 2..at + 130]);
     }
+    let _ = rt.println("");
 }
 
 // The first bytes of a lent buffer.
 fn show_reply(rt: &impl Print, buffer: &[u8], count: usize) {
-    if buffer.len() < count {
-        say(rt, b"past its buffer");
+    let _ = rt.print(" ");
+    let Some(reply) = buffer.get(..count) else {
+        let _ = rt.print("past its buffer");
         return;
-    }
-    let mut i: usize = 0;
-    while i < count {
-        show_digits(rt, buffer[i]);
-        i += 1;
+    };
+    for b in reply {
+        let _ = print!(rt; "{b:02X}");
     }
 }
 
-// Each stored byte that is another than in the entry before, with its place. The entry of a refused start has no store.
-fn show_changes(rt: &impl Print, log: &[usize], at: usize)
-    requires { (130 ≤ at) × (at + 130 ≤ length log.now) }
-{
-    if log[at] == 8 {
-        return;
-    }
-    let mut place: usize = 0;
-    while place < 128 {
-        let new = log[at + 2 + place];
-        if new != log[at - 128 + place] {
-            show_change(rt, place, new);
+// Each stored byte that is another than in the entry before, with its place. A log has numbers, and one that is no byte is told.
+fn show_changes(rt: &impl Print, before: &[usize], after: &[usize]) {
+    for (place, (old, new)) in before.iter().zip(after).enumerate() {
+        if new != old {
+            let _ = match u8::try_from(*new) {
+                Ok(b) => print!(rt; " {place}={b:02X}"),
+                Err(_) => print!(rt; " {place}=no byte"),
+            };
         }
-        place += 1;
     }
 }
 
-// A stored byte with its place. A log has numbers, and one that is no byte is told.
-fn show_change(rt: &impl Print, place: usize, value: usize) {
-    say(rt, b" ");
-    say_number(rt, place as u64);
-    say(rt, b"=");
-    if 255 < value {
-        say(rt, b"no byte");
-        return;
+// How many bytes of an event's buffer were written though they are no reply's.
+fn beside(entry: Entry, buffer: &[u8]) -> usize {
+    match entry {
+        Entry::Reply(count) => written_in(buffer.get(count..).unwrap_or(&[])),
+        _ => written_in(buffer),
     }
-    show_digits(rt, value as u8);
 }
 
-// A byte as two digits.
-fn show_digits(rt: &impl Print, n: u8) {
-    let mut text = [0u8; 2];
-    digits::put_two(&mut text, 0, n);
-    say(rt, &text);
-}
-
-// A count with the bytes of an event's buffer that were written though they are no reply's.
-fn count_beside(n: u64, log: &[usize], at: usize, buffer: &[u8]) -> u64
-    requires { (130 ≤ at) × (at + 130 ≤ length log.now) }
-{
-    if log[at] == 6 {
-        return count_from(n, buffer, log[at + 1]);
-    }
-    count_from(n, buffer, 0)
-}
-
-// A count with the bytes of a buffer from a place on that are no longer A5h. Memory has too few bytes for it to wrap.
-fn count_from(before: u64, buffer: &[u8], from: usize) -> u64 {
-    let mut n = before;
-    let mut i = from;
-    while i < buffer.len() {
-        if buffer[i] != 0xA5 {
-            n = std::num::wrapping_add_u64(n, 1);
-        }
-        i += 1;
-    }
-    n
+// How many bytes are no longer A5h.
+fn written_in(buffer: &[u8]) -> usize {
+    buffer.iter().filter(|b| **b != 0xA5).count()
 }
 
 // Whether two logs, and the lent bytes beside them, are the same in each number.
@@ -214,46 +184,11 @@ pub fn comparison(
     lent: &[u8],
     other_lent: &[u8],
 ) {
-    if !same_numbers(log, other_log) {
-        say(rt, b"an unused board shows another answer or store\n");
-        return;
-    }
-    if lent != other_lent {
-        say(
-            rt,
-            b"an unused board leaves other bytes in the lent buffers\n",
-        );
-        return;
-    }
-    say(
-        rt,
-        b"the same on an unused board, in every number of the log and every lent byte\n",
-    );
-}
-
-// Whether two logs hold the same numbers.
-fn same_numbers(a: &[usize], b: &[usize]) -> bool
-    ensures { (result ≡ true → a.now ≡ b.now) × (a.now ≡ b.now → result ≡ true) }
-{
-    if a.len() != b.len() {
-        return false;
-    }
-    let mut i: usize = 0;
-    while i < a.len() {
-        if a[i] != b[i] {
-            return false;
-        }
-        i += 1;
-    }
-    true
-}
-
-// Writes some bytes on standard output. A write that fails is not told: what comes out is compared whole.
-pub fn say(rt: &impl Print, bytes: &[u8]) {
-    let _ = rt.write_all(bytes);
-}
-
-// Writes a number in decimal, as `say` writes.
-fn say_number(rt: &impl Print, n: u64) {
-    let _ = rt.print(n);
+    let _ = rt.println(if log != other_log {
+        "an unused board shows another answer or store"
+    } else if lent != other_lent {
+        "an unused board leaves other bytes in the lent buffers"
+    } else {
+        "the same on an unused board, in every number of the log and every lent byte"
+    });
 }

@@ -1,9 +1,9 @@
 -- What inner functions ask and give. No contract of an entry point cites it.
-use Rattle.std.specs.Prelude.{cond, ◌&&◌, List, ℕ, ◌≤◌, ◌<◌, ltb, length, set}
+use Rattle.std.specs.Prelude.{Result, Ok, Err, cond, ◌&&◌, List, ℕ, ◌≤◌, ◌<◌, ltb, length, set}
 use Rattle.wire.specs.Packet.{size, least_packet}
 use Rattle.wire.specs.Judge.{header_verdict}
 use Rattle.wire.specs.Refusal.{changes_nothing}
-use Rattle.wire.specs.declared.packet.Judged.{Judged}
+use Rattle.wire.specs.declared.refusal.Refusal.{Refusal}
 use Rattle.receiver.specs.Receive as receive
 use Rattle.receiver.specs.declared.Reception.{Reception}
 
@@ -30,9 +30,9 @@ pub record GrownBeginning (held : List ℕ) (asked : ℕ) : Type 0 where
 
 -- ---- what a byte comes to
 
-abbrev pub or_refused : Judged → Reception → Reception
-or_refused Judged.Good answer = answer
-or_refused (Judged.Refused r) answer = Reception.Refused r
+abbrev pub or_refused : Result Unit Refusal → Reception → Reception
+or_refused (Ok u) answer = answer
+or_refused (Err r) answer = Reception.Refused r
 
 -- how many bytes are held after an answer, where there are n with the new one
 abbrev pub kept_after : Reception → ℕ → ℕ

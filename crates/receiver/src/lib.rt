@@ -7,7 +7,6 @@ ghost use Rattle.receiver.specs.View.{held_of, reception_in, WholeOf, receipt, e
 ghost use Rattle.receiver.specs.Inner.{checkpoint, asked, asked_behind, kept_after, array_after, or_refused, GrownBeginning};
 
 use wire::packet;
-use wire::packet::Judged;
 use wire::refusal::Refusal;
 
 // Of the longest packet at least the last byte is not held.
@@ -31,14 +30,14 @@ impl Reception {
     fn kept(self, n: u8) -> u8
         ensures { result ≡ kept_after self n }
     {
-        let Reception::Waiting = self else {
-            return 0;
-        };
-        n
+        match self {
+            Reception::Waiting => n,
+            _ => 0,
+        }
     }
 }
 
-// The held bytes: the first of the array, as many as len says.
+// The held bytes: the first of the array, as many as len says, since there is no heap.
 #[derive(Clone, Copy)]
 pub struct Receiver {
     pub held: [u8; packet::MOST_PACKET],
@@ -67,8 +66,7 @@ impl Receiver {
     pub fn asked(self) -> u8
         ensures { result ≡ asked (held_of self) }
     {
-        let held = self.held;
-        asked_for(&held, self.len)
+        asked_for(&self.held, self.len)
     }
 
     // One byte. Held bytes that are no proper beginning of a packet are refused, unchanged.
@@ -106,13 +104,12 @@ impl Receiver {
     }
 
     // A gap empties the receiver.
-    pub fn gap(mut self) -> Received
+    pub fn gap(self) -> Received
         ensures receipt { receipt result ≡ on_gap }
         ensures receiver { result.receiver ≡ emptied self }
     {
-        self.len = 0;
         Received {
-            receiver: self,
+            receiver: Receiver { len: 0, ..self },
             answer: Reception::Waiting,
         }
     }
@@ -145,7 +142,7 @@ fn asked_behind_header(bytes: &[u8], len: u8) -> u8
 {
     let n = len as usize;
     let held = &bytes[..n];
-    let Judged::Good = packet::judge_header(held) else {
+    let Ok(()) = packet::judge_header(held) else {
         return 0;
     };
     if len < SIZED {
@@ -206,11 +203,11 @@ fn judge(bytes: &[u8], n: u8) -> Reception
 }
 
 // The answer to a good verdict, or the refusal.
-fn or_refused(verdict: Judged, answer: Reception) -> Reception
+fn or_refused(verdict: Result<(), Refusal>, answer: Reception) -> Reception
     ensures { result ≡ or_refused verdict answer }
 {
-    let Judged::Refused(refusal) = verdict else {
-        return answer;
-    };
-    Reception::Refused(refusal)
+    match verdict {
+        Ok(()) => answer,
+        Err(refusal) => Reception::Refused(refusal),
+    }
 }

@@ -9,7 +9,7 @@ ghost use Rattle.recording.specs.Inner.{Asking, Counts, asked_next};
 use receiver::Reception;
 use wire::packet;
 
-// How many bytes are held and asked for, and the counts so far.
+// How many bytes are held and asked for, and the counts so far. The bytes lie beside it in an array that the receiver's core is lent.
 #[derive(Clone, Copy)]
 pub struct Tally {
     pub len: u8,
@@ -30,10 +30,8 @@ pub extern "C" fn recording_count(recording: &[u8], refused: &mut u64) -> u64
         packets: 0,
         refusals: 0,
     };
-    let mut i: usize = 0;
-    while i < recording.len() {
-        tally = tallied(&mut held, tally, recording[i]);
-        i += 1;
+    for b in recording {
+        tally = tallied(&mut held, tally, *b);
     }
     *refused = tally.refusals;
     tally.packets
@@ -49,29 +47,24 @@ fn tallied(held: &mut [u8; packet::MOST_PACKET], tally: Tally, b: u8) -> Tally
     match receiver::advance(held, tally.len, tally.asked, b) {
         Reception::Waiting => {
             let len = tally.len + 1;
-            return Tally {
+            Tally {
                 len,
                 asked: asked_next(held, len, tally.asked),
-                packets: tally.packets,
-                refusals: tally.refusals,
-            };
+                ..tally
+            }
         }
-        Reception::Refused(_) => {
-            return Tally {
-                len: 0,
-                asked: receiver::HEADER,
-                packets: tally.packets,
-                refusals: tally.refusals + 1,
-            };
-        }
-        Reception::Whole(_) => {
-            return Tally {
-                len: 0,
-                asked: receiver::HEADER,
-                packets: tally.packets + 1,
-                refusals: tally.refusals,
-            };
-        }
+        Reception::Refused(_) => Tally {
+            len: 0,
+            asked: receiver::HEADER,
+            refusals: tally.refusals + 1,
+            ..tally
+        },
+        Reception::Whole(_) => Tally {
+            len: 0,
+            asked: receiver::HEADER,
+            packets: tally.packets + 1,
+            ..tally
+        },
     }
 }
 

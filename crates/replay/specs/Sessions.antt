@@ -1,6 +1,6 @@
 -- The reads of the program replay (docs/RULES.md, RT4 and XB5): what comes after each of them. The bytes themselves and what is written
 -- are the system's, and nothing is said of them here.
-use Rattle.std.specs.Prelude.{Bool, true, false, cond, ◌&&◌, ◌≡◌, ℕ, suc, ◌+◌, min, ◌⊎◌, ltb, Result}
+use Rattle.std.specs.Prelude.{Bool, true, false, cond, ◌&&◌, ◌≡◌, ℕ, suc, ◌+◌, min, ◌⊎◌, ltb, Result, IfOk}
 use Rattle.replay.specs.declared.Next.{Next}
 use Rattle.replay.specs.declared.Session.{Session}
 use Rattle.replay.specs.declared.Told.{Told}
@@ -35,8 +35,8 @@ abbrev pub counted_on : ℕ → ℕ → ℕ
 counted_on at more = min (at + more) largest
 
 -- so many bytes came: where their lines could be written, each of them was counted
-abbrev pub AreCounted : Told → ℕ → ℕ → Type 0
-AreCounted t before n = t.written ≡ true → t.at ≡ counted_on before n
+abbrev pub AreCounted : {E : Type 0} → Result Told E → ℕ → ℕ → Type 0
+AreCounted told before n = IfOk told (λ t. t.at ≡ counted_on before n)
 
 -- A session after a read that gave this, into a buffer of such a size: the read is counted; and a write is reported as failed, or what comes next
 -- is what the read says and every byte that came was counted.

@@ -1,8 +1,8 @@
 // Bytes from standard input, given to an unused board of ID 1 with no serial number and no model; a line for each answer.
 #![tactic(auto)]
 
-ghost use Rattle.std.specs.Prelude.{false, ◌≡◌, suc, ◌≤◌, ◌<◌, length};
-ghost use Rattle.replay.specs.Sessions.{largest, came, next_after, goes_on, counted_on, AreCounted, IsAfterRead};
+ghost use Rattle.std.specs.Prelude.{false, ◌≡◌, suc, ◌≤◌, ◌<◌, length, IfOk};
+ghost use Rattle.replay.specs.Sessions.{largest, came, next_after, goes_on, AreCounted, IsAfterRead};
 
 use board::board::Board;
 use std::io;
@@ -19,7 +19,7 @@ pub enum Next {
     WriteFailed,
 }
 
-// The board, how many bytes it was given, how many reads were made, and what comes next.
+// The board, how many bytes it was given, how many reads were made, and what comes next. A read whose lines can't be written changes only the last two.
 #[derive(Clone, Copy)]
 pub struct Session {
     pub board: Board,
@@ -28,19 +28,11 @@ pub struct Session {
     pub next: Next,
 }
 
-// The board and the number of bytes it was given, and whether their lines could be written.
+// The board and the number of bytes it was given.
 #[derive(Clone, Copy)]
 pub struct Told {
     pub board: Board,
     pub at: u64,
-    pub written: bool,
-}
-
-// How much of a buffer is used, and whether what was taken out of it could be written.
-#[derive(Clone, Copy)]
-pub struct Room {
-    pub used: usize,
-    pub written: bool,
 }
 
 fn main(rt: HostRuntime) {
@@ -53,7 +45,7 @@ fn main(rt: HostRuntime) {
     let mut reply = [0u8; 64];
     let mut out = large_buffer();
     let started = board::board::start(&mut store, 1, b"", b"");
-    let board = started.board;
+    let board = started.unwrap_or(board::board::no_board());
     let session = Session {
         board,
         at: 0,
@@ -73,13 +65,13 @@ fn large_buffer() -> [u8; 65536]
 }
 
 // Says on standard error why a session ended. The end of the input is no failure, and nothing is said of it. A line that can't be written there is lost.
+// The two texts stand here alone, so a Display would be no plainer.
 fn say_why(rt: &impl Eprint, next: Next) {
-    if let Next::ReadFailed = next {
-        let _ = rt.eprintln("replay: standard input can't be read");
-    }
-    if let Next::WriteFailed = next {
-        let _ = rt.eprintln("replay: standard output can't be written");
-    }
+    let _ = match next {
+        Next::ReadFailed => rt.eprintln("replay: standard input can't be read"),
+        Next::WriteFailed => rt.eprintln("replay: standard output can't be written"),
+        Next::Read | Next::InputEnded => Ok(()),
+    };
 }
 
 // Reads until the session ends.
@@ -105,11 +97,7 @@ impl Session {
     fn goes_on(self) -> bool
         ensures { result ≡ goes_on self }
     {
-        let next = self.next;
-        if let Next::Read = next {
-            return self.reads < u64::MAX;
-        }
-        false
+        matches!(self.next, Next::Read) && self.reads < u64::MAX
     }
 }
 
@@ -145,15 +133,18 @@ fn take_in(
 {
     let reads = session.reads + 1;
     let n = count(got, buf);
-    let given = session.board;
-    let told = give_all(rt, given, session.at, store, &buf[..n], reply, out);
-    let board = told.board;
-    let next = next_after(got, told.written);
-    Session {
-        board,
-        at: told.at,
-        reads,
-        next,
+    match give_all(rt, session.board, session.at, store, &buf[..n], reply, out) {
+        Ok(told) => Session {
+            board: told.board,
+            at: told.at,
+            reads,
+            next: next_after(got, true),
+        },
+        Err(_) => Session {
+            reads,
+            next: next_after(got, false),
+            ..session
+        },
     }
 }
 
@@ -162,29 +153,28 @@ fn count(got: io::Result<usize>, buf: &[u8]) -> usize
     ensures within { result ≤ length buf.now }
     ensures value { result ≡ came got (length buf.now) }
 {
-    let Ok(n) = got else {
-        return 0;
-    };
-    if buf.len() < n { buf.len() } else { n }
+    match got {
+        Ok(n) => n.min(buf.len()),
+        Err(_) => 0,
+    }
 }
 
-// What comes after a read that gave so many bytes, 0 at the end of the input, or failed.
+// What comes after a read that gave so many bytes, 0 at the end of the input, or failed, and after its lines were written or not.
 fn next_after(got: io::Result<usize>, written: bool) -> Next
     ensures { result ≡ next_after got written }
 {
     if !written {
         return Next::WriteFailed;
     }
-    let Ok(n) = got else {
-        return Next::ReadFailed;
-    };
-    if 0 < n {
-        return Next::Read;
+    match got {
+        Ok(0) => Next::InputEnded,
+        Ok(_) => Next::Read,
+        Err(_) => Next::ReadFailed,
     }
-    Next::InputEnded
 }
 
-// Gives the board some bytes and writes their lines; where these can't be written, the bytes behind them are left.
+// Gives the board some bytes and writes their lines; where these can't be written, the bytes behind them are left. The room for lines is lent, since
+// there is no heap, so how much of it is used stands beside it.
 fn give_all(
     rt: &impl Print,
     first: Board,
@@ -193,30 +183,21 @@ fn give_all(
     bytes: &[u8],
     reply: &mut [u8],
     out: &mut [u8],
-) -> Told
+) -> io::Result<Told>
     ensures { AreCounted result before (length bytes.now) }
 {
     let mut board = first;
     let mut at = before;
     let mut used: usize = 0;
-    let mut i: usize = 0;
-    while i < bytes.len() {
-        at = one_more(at);
-        let given = give(out, used, board, store, at, bytes[i], reply);
+    for b in bytes {
+        // The largest number stays.
+        at = at.saturating_add(1);
+        let given = give(out, used, board, store, at, *b, reply);
         board = given.board;
-        let room = with_room(rt, given.length, out);
-        if !room.written {
-            return Told {
-                board,
-                at,
-                written: false,
-            };
-        }
-        used = room.used;
-        i += 1;
+        used = with_room(rt, given.length, out)?;
     }
-    let written = rt.write_all(&out[..used]).is_ok();
-    Told { board, at, written }
+    rt.write_all(&out[..used])?;
+    Ok(Told { board, at })
 }
 
 // Gives the board a byte, and writes its lines behind what is used of the buffer; the next board, and how much is used then.
@@ -233,32 +214,20 @@ fn give(
     ensures { result.length ≤ length out.new }
 {
     let given = feed::feed(board, store, at, b, reply, &mut out[used..]);
-    let next = given.board;
-    let length = used + given.length;
     Given {
-        board: next,
-        length,
+        length: used + given.length,
+        ..given
     }
 }
 
 // Writes out the lines when little room is left; how much of the buffer is used then.
-fn with_room(rt: &impl Print, used: usize, out: &[u8]) -> Room
+fn with_room(rt: &impl Print, used: usize, out: &[u8]) -> io::Result<usize>
     requires { used ≤ length out.now }
-    ensures { result.used ≤ length out.now }
+    ensures { IfOk result (λ n. n ≤ length out.now) }
 {
     if out.len() - used < 512 {
-        let written = rt.write_all(&out[..used]).is_ok();
-        return Room { used: 0, written };
+        rt.write_all(&out[..used])?;
+        return Ok(0);
     }
-    Room {
-        used,
-        written: true,
-    }
-}
-
-// The number of bytes after one more; the largest number stays.
-fn one_more(at: u64) -> u64
-    ensures { result ≡ counted_on at 1 }
-{
-    if at < u64::MAX { at + 1 } else { at }
+    Ok(used)
 }

@@ -1,6 +1,5 @@
 -- What decoding and packing do to bytes 44 to 78 they do to the store: a program more of the seven, and one of the seven replaced.
 use mathlib.Core.Path.{◌≡◌, refl, sym, ap, ◌∙◌, subst}
-use mathlib.Core.Bool.{Bool, true, false, false≢true}
 use mathlib.Core.List.{List, [], ◌∷◌}
 use mathlib.Core.Logic.{◌≢◌}
 use Prim.Native.Nat.{ℕ, zero, suc, ◌+◌, ◌-◌, ◌*◌, ◌≤◌, ◌<◌}
@@ -12,20 +11,9 @@ use lib.Seq.{take-suc-set, take_all, drop-drop, get_or-set_same, get_or-set_othe
 use Rattle.bitfield.specs.Field.{put_field}
 use Rattle.bitfield.proofs.Laws.{get-lt, put-get}
 use Rattle.store.proofs.FieldLaws.{take_put, drop-put, part_of-first}
-use Rattle.schedule.specs.Programs.{
-  Part,
-  parts,
-  program_bit,
-  program_of,
-  first_programs,
-  programs_of,
-  with_fields,
-  with_program,
-  is_program,
-  programs_in_range,
-}
+use Rattle.schedule.specs.Programs.{Part, parts, program_bit, program_of, first_programs, programs_of, with_fields, with_program}
 use Rattle.schedule.specs.Inner.{area_of, with_first, with_programs, Fit, AllFit}
-use Rattle.schedule.proofs.ProgramLaws.{InOrder, parts-in_order, program_other, programs-length, programs-at, in_range-one}
+use Rattle.schedule.proofs.ProgramLaws.{InOrder, parts-in_order, program_other, programs-length, programs-at}
 
 -- ---- bytes 44 to 78
 
@@ -118,12 +106,3 @@ module _ (m : List ℕ) (k : ℕ) (fs : List ℕ) (h : k < 7) where
       go : Dec (j ≡ k) → Fit (get_or rows j [])
       go (yes e) = subst Fit (sym (ap (λ (j : ℕ). get_or rows j []) e ∙ row_same)) f
       go (no n) = subst Fit (sym (row_other j l n)) decoded_fits
-
--- ---- a program that is out of range
-
-pub not_in_range : (m : List ℕ) (k : ℕ) → k < 7 → is_program (program_of m k) ≡ false → programs_in_range m ≡ false
-not_in_range m k h e = go (programs_in_range m) refl
-  where
-    go : (b : Bool) → programs_in_range m ≡ b → b ≡ false
-    go true r = absurd (false≢true (sym e ∙ in_range-one m r k h))
-    go false r = refl

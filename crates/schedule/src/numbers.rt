@@ -6,28 +6,17 @@ ghost use Rattle.schedule.specs.Inner.{Fit};
 use crate::programs;
 
 // Whether a write accepts the numbers.
+#[tactic(auto, unfolding(crate::specs::Numbers::is_accepted))]
 pub fn is_accepted(numbers: [u8; 16]) -> bool
     ensures { result ≡ is_accepted numbers }
 {
-    if 6 < numbers[0] {
-        return false;
-    }
-    if !programs::is_time(numbers[1], numbers[2]) {
-        return false;
-    }
-    if !programs::is_time(numbers[3], numbers[4]) {
-        return false;
-    }
-    if !is_input(numbers[5]) {
-        return false;
-    }
-    if 127 < numbers[6] {
-        return false;
-    }
-    if 7 < numbers[7] {
-        return false;
-    }
-    are_zero(&numbers[8..16])
+    numbers[0] <= 6
+        && programs::is_time(numbers[1], numbers[2])
+        && programs::is_time(numbers[3], numbers[4])
+        && is_input(numbers[5])
+        && numbers[6] <= 127
+        && numbers[7] <= 7
+        && are_zero(&numbers[8..])
 }
 
 // The fields that are kept of accepted numbers.
@@ -51,24 +40,31 @@ pub fn shown_program(store: &[u8], k: usize) -> [u8; 16]
     requires { (length store.now ≡ 128) × (k < 7) }
     ensures { result ≡ shown_program store.now k }
 {
-    let programs = programs::programs_of(store);
-    let fields = programs[k];
-    let mut numbers = [0u8; 16];
-    numbers[0] = k as u8;
-    numbers[1] = fields[0];
-    numbers[2] = fields[1];
-    numbers[3] = fields[2];
-    numbers[4] = fields[3];
-    numbers[5] = input_shown(fields[4]);
-    numbers[6] = fields[5];
-    numbers[7] = fields[6];
-    numbers
+    let fields = programs::programs_of(store)[k];
+    [
+        k as u8,
+        fields[0],
+        fields[1],
+        fields[2],
+        fields[3],
+        input_shown(fields[4]),
+        fields[5],
+        fields[6],
+        0,
+        0,
+        0,
+        0,
+        0,
+        0,
+        0,
+        0,
+    ]
 }
 
 fn is_input(v: u8) -> bool
     ensures { result ≡ is_input v }
 {
-    (v == 0) | (v == 1) | (v == 3) | (v == 17)
+    matches!(v, 0 | 1 | 3 | 17)
 }
 
 fn input_kept(v: u8) -> u8
@@ -96,12 +92,5 @@ fn input_shown(k: u8) -> u8
 fn are_zero(bytes: &[u8]) -> bool
     ensures { result ≡ are_zero bytes.now }
 {
-    let mut i: usize = 0;
-    while i < bytes.len() {
-        if bytes[i] != 0 {
-            return false;
-        }
-        i += 1;
-    }
-    true
+    bytes.iter().all(|b| *b == 0)
 }

@@ -7,7 +7,7 @@ ghost use Rattle.store.specs.Inner.{InStore};
 ghost use Rattle.schedule.specs.Inner.{InArea, area_of, with_programs, Fit, AllFit};
 
 use plan::Plan;
-use store::fields;
+use store::fields::Field;
 
 // Where the programs begin: the first byte and the first bit.
 pub const FIRST_BYTE: usize = 44;
@@ -20,10 +20,8 @@ pub fn programs_of(store: &[u8]) -> [[u8; 7]; 7]
     ensures { result ≡ programs_of store.now }
 {
     let mut programs = [[0u8; 7]; 7];
-    let mut k: usize = 0;
-    while k < 7 {
+    for k in 0..7 {
         programs[k] = program_at(store, k);
-        k += 1;
     }
     programs
 }
@@ -40,11 +38,16 @@ pub fn program_stores(store: &[u8], k: usize, fields: [u8; 7]) -> Plan
 }
 
 // What enabling (1) or disabling (0) program k stores: the byte with FL bit 2.
+#[tactic(auto, unfolding(store::specs::Fields::field_stores))]
 pub fn enable_stores(store: &[u8], k: usize, enable: u16) -> Plan
     requires { (length store.now ≡ 128) × (k < 7) × (enable ≤ 1) }
     ensures { stores_of result ≡ enable_stores store.now k enable }
 {
-    fields::field_stores(store, FIRST_BIT + 40 * k + 31, 1, enable)
+    let enabled = Field {
+        at: FIRST_BIT + 40 * k + 31,
+        width: 1,
+    };
+    enabled.stores(store, enable)
 }
 
 // Whether each program of a store holds what it may hold.
@@ -52,27 +55,18 @@ pub fn in_range(store: &[u8]) -> bool
     requires { length store.now ≡ 128 }
     ensures { result ≡ programs_in_range store.now }
 {
-    let mut k: usize = 0;
-    while k < 7 {
-        if !is_program_at(store, k) {
-            return false;
-        }
-        k += 1;
-    }
-    true
+    (0..7).all(|k| is_program_at(store, k))
 }
 
 // The bytes of seven unused programs.
 pub fn unused() -> [u8; 35]
     ensures { result ≡ unused_programs }
 {
+    // 24:60 to 24:60, and nothing else.
+    let program = [0xC7, 0x98, 0xF0, 0, 0];
     let mut area = [0u8; 35];
-    let mut k: usize = 0;
-    while k < 7 {
-        area[5 * k] = 0xC7;
-        area[5 * k + 1] = 0x98;
-        area[5 * k + 2] = 0xF0;
-        k += 1;
+    for k in 0..7 {
+        area[5 * k..5 * k + 5].copy_from_slice(&program);
     }
     area
 }
@@ -128,22 +122,20 @@ fn packed(store: &[u8], programs: [[u8; 7]; 7]) -> [u8; 35]
     ensures { result ≡ area_of (with_programs store.now programs) }
 {
     let mut area = area_of(store);
-    let mut k: usize = 0;
-    while k < 7 {
-        let fields = programs[k];
-        put_program(&mut area, k, fields);
-        k += 1;
+    for (k, fields) in programs.iter().enumerate() {
+        put_program(&mut area, k, *fields);
     }
     area
 }
 
-// Bytes 44 to 78.
+// Bytes 44 to 78, copied as `head_of` of `store` copies; one function over the width would be no plainer.
+#[tactic(auto, unfolding(crate::specs::Inner::area_of))]
 fn area_of(store: &[u8]) -> [u8; 35]
     requires { length store.now ≡ 128 }
     ensures { result ≡ area_of store.now }
 {
     let mut area = [0u8; 35];
-    wire::digits::put_bytes(&mut area, 0, &store[FIRST_BYTE..FIRST_BYTE + 35]);
+    area.copy_from_slice(&store[FIRST_BYTE..FIRST_BYTE + 35]);
     area
 }
 

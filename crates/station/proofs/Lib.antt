@@ -1,4 +1,3 @@
-pub mod Laws
 pub mod ReadLaws
 pub mod OneByte
 pub mod ReadWritten

@@ -51,7 +51,7 @@ module _ (p : List ℕ) where
         most = leb-true (get_or p 3 0) 0x48 monitor.1;
       }
 
-  pub whole_packet : 13 ≤ length p → is_whole_length p ≡ true → Whole p
+  whole_packet : 13 ≤ length p → is_whole_length p ≡ true → Whole p
   unfolding is_whole_length
   whole_packet h e = record { least = h; sized = eqb-true (size p) (length p) (both (is_length p) (eqb (size p) (length p)) e).1 }
 

@@ -1,8 +1,9 @@
 -- The encoder (docs/RULES.md, 'Station', EN1): refusals 10, 20 and 21 in this order, or the packet of a request.
-use Rattle.std.specs.Prelude.{Bool, true, cond, ◌&&◌, ◌||◌, List, ◌≡◌, ℕ, ltb, leb, eqb, length}
+use Rattle.std.specs.Prelude.{Result, Ok, Err, Bool, true, cond, ◌&&◌, ◌||◌, List, ◌≡◌, ℕ, ltb, leb, eqb, length}
 use Rattle.std.proofs.Math.Option.{Option, none, some}
 use Rattle.wire.specs.Packet.{least_id, most_id, address_of, all_address, least_buffer, request_packet, over}
 use Rattle.wire.specs.Refusal.{number_of}
+use Rattle.wire.specs.declared.refusal.Refusal.{Refusal}
 use Rattle.messages.specs.Message.{ScheduleRequest, Request}
 use Rattle.messages.specs.Message.ScheduleRequest.{schedule_read, schedule_write, schedule_enable}
 use Rattle.messages.specs.Message.Request.{get_parameter, set_parameter, power_read, power_control, date_read, date_write, item_read, tag_write, schedule}
@@ -10,7 +11,6 @@ use Rattle.messages.specs.Text.{request_type, request_text}
 use Rattle.calendar.specs.Calendar as date
 use Rattle.schedule.specs.Numbers as program
 use Rattle.station.specs.declared.encode.Destination.{Destination}
-use Rattle.station.specs.declared.encode.Encoded.{Encoded}
 
 -- a packet to send, or a refusal
 pub data Encoding : Type 0 where
@@ -54,17 +54,17 @@ encoding room dest r = encoding_of room dest (is_in_range r) (request_type r) (r
 
 -- ---- what the code's answer means, and what is in the buffer
 
-abbrev pub EncodedAs : Encoding → Encoded → Type 0
-EncodedAs (sends p) (Encoded.Length n) = n ≡ length p
-EncodedAs (sends p) (Encoded.Refused r) = ⊥
-EncodedAs (refused k) (Encoded.Length n) = ⊥
-EncodedAs (refused k) (Encoded.Refused r) = number_of r ≡ k
+abbrev pub EncodedAs : Encoding → Result ℕ Refusal → Type 0
+EncodedAs (sends p) (Ok n) = n ≡ length p
+EncodedAs (sends p) (Err r) = ⊥
+EncodedAs (refused k) (Ok n) = ⊥
+EncodedAs (refused k) (Err r) = number_of r ≡ k
 
 abbrev pub buffer_as : Encoding → List ℕ → List ℕ
 buffer_as (sends p) buffer = over p buffer
 buffer_as (refused k) buffer = buffer
 
 -- the answer, and the lent buffer: the packet at its start, or as it was
-pub record Encodes (e : Encoding) (r : Encoded) (before after : List ℕ) : Type 0 where
+pub record Encodes (e : Encoding) (r : Result ℕ Refusal) (before after : List ℕ) : Type 0 where
   pub answer : EncodedAs e r
   pub buffer : after ≡ buffer_as e before

@@ -1,13 +1,13 @@
 -- The reader (docs/RULES.md, 'Station', RD1): refusals 30 to 35 in this order, or the reply in one whole packet, with its sender.
-use Rattle.std.specs.Prelude.{Bool, cond, not, ◌&&◌, ◌||◌, List, [], ◌≡◌, ℕ, ◌-◌, ltb, leb, eqb, length, get_or}
+use Rattle.std.specs.Prelude.{Bool, cond, not, ◌&&◌, ◌||◌, List, ◌≡◌, ℕ, ◌-◌, ltb, leb, eqb, length, get_or, IfOk}
 use Rattle.std.proofs.Math.Option.{Option, none}
-use Rattle.wire.specs.Digits.{padded}
 use Rattle.wire.specs.Packet.{soh, zero_byte, least_id, most_id, address_base, address_of, type_b, type_d, type_f, least_packet, size, packet_text}
 use Rattle.wire.specs.Judge.{Verdict, is_length, ends_in_return, has_check_code, is_message}
 use Rattle.wire.specs.Judge as judge
-use Rattle.messages.specs.Message.{Reply, reply_bytes}
+use Rattle.messages.specs.Message.{Reply}
 use Rattle.messages.specs.Read.{reply_in}
-use Rattle.replies.specs.View.{TextReading, reading_with, or_refused, answer_count}
+use Rattle.messages.specs.View.{ExactReply}
+use Rattle.replies.specs.View.{TextReading, reading, or_refused}
 use Rattle.replies.specs.View as text
 use Rattle.station.specs.declared.read.PacketReading as declared
 
@@ -67,19 +67,14 @@ read_packet p = unless_refused (reply_verdict p) (sent_by (get_or p 3 0 - addres
 -- ---- what the code's answer means
 
 abbrev pub packet_reading : declared.PacketReading → PacketReading
-packet_reading r = sent_by r.sender (reading_with r.answer r.bytes)
+packet_reading r = sent_by r.sender (reading r.answer)
 
 abbrev pub sender_in : PacketReading → ℕ
 sender_in (reply id r) = id
 sender_in (refused n) = 0
 
-abbrev pub bytes_in : PacketReading → List ℕ
-bytes_in (reply id r) = reply_bytes r
-bytes_in (refused n) = []
-
--- the answer and its sender; how many bytes are counted, and the bytes with zeros behind them: the reply's, or none. A refusal has sender 0.
+-- the answer and its sender; the bytes of a tag, a serial number or a model are as many as counted, with zeros behind them. A refusal has sender 0.
 pub record ReadsPacket (r : declared.PacketReading) (wanted : PacketReading) : Type 0 where
   pub answer : packet_reading r ≡ wanted
   pub sender : r.sender ≡ sender_in wanted
-  pub count : answer_count r.answer ≡ length (bytes_in wanted)
-  pub bytes : r.bytes ≡ padded (bytes_in wanted)
+  pub exact : IfOk r.answer ExactReply

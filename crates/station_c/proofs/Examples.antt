@@ -1,6 +1,5 @@
 -- The worked calls, each by computation.
 use mathlib.Core.List.{List, ◌∷◌}
-use mathlib.Core.Option.{bind}
 use mathlib.Core.Path.{◌≡◌, refl}
 use Prim.Native.Nat.{ℕ}
 use lib.ListN.{length}
@@ -47,7 +46,7 @@ a and b = (a, b)
 pub worked-hold : AllHold worked
 unfolding AllHold destination_of encoding_of date.is_accepted is_day days_in weekday_of before_year before_month program.is_accepted are_zero request_type request_text date_text schedule_text
     hex_of packet packet_with xor_from read_into read_packet reply_verdict is_reply_header is_whole_length is_length size ends_in_return has_check_code check_code
-    reply_in_message is_message packet_text two_at four_at value_of begins_with is_name flag_at mode_at bind date_in octets_in unhex
+    reply_in_message is_message packet_text two_at four_at value_of begins_with is_name flag_at mode_at date_in octets_in unhex
     reply_in parameter_in command_reply_in tag_write_reply_in plain_reply_in date_write_reply_in power_read_reply_in power_control_reply_in
     numbers_in schedule_write_reply_in schedule_enable_reply_in reply_size
 worked-hold =

@@ -1,14 +1,14 @@
 // The encoder for C: the result is 0 or the refusal, and the packet's length goes to a lent place. Refused, nothing is written.
-ghost use Rattle.std.specs.Prelude.{◌≡◌, length};
+ghost use Rattle.std.specs.Prelude.{◌≡◌, ◌≤◌, length};
 ghost use Rattle.messages.specs.View.{request_of, request_count};
-ghost use Rattle.messages.specs.Inner.{Beside};
 ghost use Rattle.station.specs.Encode.{encoding};
 ghost use Rattle.station_c.specs.Encode.{destination_of, encode_get, encode_set, encode_power_read, encode_power_control, encode_date_read, encode_date_write, encode_serial_read, encode_model_read, encode_tag_read, encode_former_tag_read, encode_tag_write, encode_schedule_read, encode_schedule_write, encode_schedule_enable, encoding_for, EncodesForC, weekday_for};
 ghost use Rattle.station_c.specs.Inner.{TellsOf};
 
 use messages::message::{Date, Item, Request, ScheduleRequest};
 use station::encode;
-use station::encode::{Destination, Encoded};
+use station::encode::Destination;
+use wire::refusal::Refusal;
 
 #[unsafe(no_mangle)]
 pub extern "C" fn station_encode_get(
@@ -20,7 +20,7 @@ pub extern "C" fn station_encode_get(
 ) -> u8
     ensures { EncodesForC (encoding_for (length out.old) dest (encode_get page code)) result out.old out.new size.old size.new }
 {
-    export(dest, Request::Get { page, code }, b"", out, size)
+    export(dest, Request::Get { page, code }, out, size)
 }
 
 #[unsafe(no_mangle)]
@@ -34,14 +34,14 @@ pub extern "C" fn station_encode_set(
 ) -> u8
     ensures { EncodesForC (encoding_for (length out.old) dest (encode_set page code value)) result out.old out.new size.old size.new }
 {
-    export(dest, Request::Set { page, code, value }, b"", out, size)
+    export(dest, Request::Set { page, code, value }, out, size)
 }
 
 #[unsafe(no_mangle)]
 pub extern "C" fn station_encode_power_read(dest: u16, out: &mut [u8], size: &mut usize) -> u8
     ensures { EncodesForC (encoding_for (length out.old) dest encode_power_read) result out.old out.new size.old size.new }
 {
-    export(dest, Request::PowerRead, b"", out, size)
+    export(dest, Request::PowerRead, out, size)
 }
 
 #[unsafe(no_mangle)]
@@ -53,14 +53,14 @@ pub extern "C" fn station_encode_power_control(
 ) -> u8
     ensures { EncodesForC (encoding_for (length out.old) dest (encode_power_control mode)) result out.old out.new size.old size.new }
 {
-    export(dest, Request::PowerControl(mode), b"", out, size)
+    export(dest, Request::PowerControl(mode), out, size)
 }
 
 #[unsafe(no_mangle)]
 pub extern "C" fn station_encode_date_read(dest: u16, out: &mut [u8], size: &mut usize) -> u8
     ensures { EncodesForC (encoding_for (length out.old) dest encode_date_read) result out.old out.new size.old size.new }
 {
-    export(dest, Request::DateRead, b"", out, size)
+    export(dest, Request::DateRead, out, size)
 }
 
 #[unsafe(no_mangle)]
@@ -87,7 +87,7 @@ pub extern "C" fn station_encode_date_write(
         minute,
         daylight,
     };
-    export(dest, Request::DateWrite(date), b"", out, size)
+    export(dest, Request::DateWrite(date), out, size)
 }
 
 // The weekday that falls on a day, Sunday 0; 7 where there is no such day.
@@ -95,38 +95,39 @@ pub extern "C" fn station_encode_date_write(
 pub extern "C" fn station_weekday(year: u8, month: u8, day: u8) -> u8
     ensures { result ≡ weekday_for year month day }
 {
-    if !calendar::is_day(year, month, day) {
-        return 7;
+    if calendar::is_day(year, month, day) {
+        calendar::weekday_of(year, month, day)
+    } else {
+        7
     }
-    calendar::weekday_of(year, month, day)
 }
 
 #[unsafe(no_mangle)]
 pub extern "C" fn station_encode_serial_read(dest: u16, out: &mut [u8], size: &mut usize) -> u8
     ensures { EncodesForC (encoding_for (length out.old) dest encode_serial_read) result out.old out.new size.old size.new }
 {
-    export(dest, Request::ItemRead(Item::Serial), b"", out, size)
+    export(dest, Request::ItemRead(Item::Serial), out, size)
 }
 
 #[unsafe(no_mangle)]
 pub extern "C" fn station_encode_model_read(dest: u16, out: &mut [u8], size: &mut usize) -> u8
     ensures { EncodesForC (encoding_for (length out.old) dest encode_model_read) result out.old out.new size.old size.new }
 {
-    export(dest, Request::ItemRead(Item::Model), b"", out, size)
+    export(dest, Request::ItemRead(Item::Model), out, size)
 }
 
 #[unsafe(no_mangle)]
 pub extern "C" fn station_encode_tag_read(dest: u16, out: &mut [u8], size: &mut usize) -> u8
     ensures { EncodesForC (encoding_for (length out.old) dest encode_tag_read) result out.old out.new size.old size.new }
 {
-    export(dest, Request::ItemRead(Item::Tag), b"", out, size)
+    export(dest, Request::ItemRead(Item::Tag), out, size)
 }
 
 #[unsafe(no_mangle)]
 pub extern "C" fn station_encode_former_tag_read(dest: u16, out: &mut [u8], size: &mut usize) -> u8
     ensures { EncodesForC (encoding_for (length out.old) dest encode_former_tag_read) result out.old out.new size.old size.new }
 {
-    export(dest, Request::ItemRead(Item::FormerTag), b"", out, size)
+    export(dest, Request::ItemRead(Item::FormerTag), out, size)
 }
 
 #[unsafe(no_mangle)]
@@ -153,7 +154,6 @@ pub extern "C" fn station_encode_schedule_read(
     export(
         dest,
         Request::Schedule(ScheduleRequest::Read(program)),
-        b"",
         out,
         size,
     )
@@ -195,44 +195,43 @@ pub extern "C" fn station_encode_schedule_enable(
     export(
         dest,
         Request::Schedule(ScheduleRequest::Enable(program, enable)),
-        b"",
         out,
         size,
     )
 }
 
-// Any request, with its bytes beside it.
-fn export(dest: u16, request: Request, bytes: &[u8], out: &mut [u8], size: &mut usize) -> u8
-    requires { Beside (request_count request) bytes.now }
-    ensures { EncodesForC (encoding (length out.old) (destination_of dest) (request_of request bytes.now)) result out.old out.new size.old size.new }
+// Any request.
+fn export(dest: u16, request: Request, out: &mut [u8], size: &mut usize) -> u8
+    requires { request_count request ≤ 16 }
+    ensures { EncodesForC (encoding (length out.old) (destination_of dest) (request_of request)) result out.old out.new size.old size.new }
 {
     tell(
-        encode::encode_request(destination(dest), request, bytes, out),
+        encode::encode_request(destination(dest), request, out),
         size,
     )
 }
 
 // The destination of a number: 256 is ALL, any other an ID.
+#[tactic(auto, unfolding(crate::specs::Encode::destination_of))]
 fn destination(number: u16) -> Destination
     ensures { result ≡ destination_of number }
 {
     if number == 256 {
-        return Destination::All;
+        Destination::All
+    } else {
+        Destination::Id(number)
     }
-    Destination::Id(number)
 }
 
 // 0, and the length in its place; or the refusal, and the place untouched.
-fn tell(e: Encoded, size: &mut usize) -> u8
+fn tell(e: Result<usize, Refusal>, size: &mut usize) -> u8
     ensures { TellsOf e result size.old size.new }
 {
     match e {
-        Encoded::Length(n) => {
+        Ok(n) => {
             *size = n;
-            return 0;
+            0
         }
-        Encoded::Refused(refusal) => {
-            return refusal.number();
-        }
+        Err(refusal) => refusal.number(),
     }
 }

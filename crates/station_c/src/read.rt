@@ -1,26 +1,44 @@
 // The reader for C: the result is the kind of the reply or the refusal; numbers and bytes go to lent places. Refused, nothing is written.
-ghost use Rattle.std.specs.Prelude.{[], ◌∷◌, ◌≡◌, ◌≤◌, length, take};
-ghost use Rattle.wire.specs.Packet.{over};
-ghost use Rattle.messages.specs.View.{status_number, date_answer_of};
-ghost use Rattle.messages.specs.declared.message.Reply.{Reply};
+ghost use Rattle.std.specs.Prelude.{[], ◌∷◌, ◌≡◌, ◌≤◌, length};
+ghost use Rattle.wire.specs.Digits.{octets_of};
+ghost use Rattle.messages.specs.Message.{reply_bytes};
+ghost use Rattle.messages.specs.View.{status_number, date_answer_of, schedule_answer_of, reply_of, ExactReply};
 ghost use Rattle.station.specs.Read.{reply_size};
-ghost use Rattle.station_c.specs.Read.{read_into, ReadsForC, reply_kind, item_kind, numbers_of, date_numbers};
-ghost use Rattle.station_c.specs.Inner.{Lists, listing};
+ghost use Rattle.station_c.specs.Read.{read_into, ReadsForC, reply_kind, item_kind, schedule_kind, numbers_of, schedule_numbers, date_numbers};
+ghost use Rattle.station_c.specs.Inner.{listing};
 
 use messages::message::{Date, DateAnswer, Item, Parameter, Reply, ScheduleAnswer, Status};
-use replies::read::ReplyOrRefusal;
 use station::read;
-use wire::digits;
+use wire::digits::Octets;
+use wire::refusal::Refusal;
 
-// A reply as its kind, its numbers with the sender's ID first, and how many bytes stand beside it.
+// A reply as its kind and its numbers, the sender's ID first: the first of the array, as many as count says, since there is no heap. Kinds are numbers
+// because C is told numbers.
 #[derive(Clone, Copy)]
 pub struct Listed {
     pub kind: u8,
     pub count: usize,
     pub numbers: [u16; 9],
-    pub beside: u8,
 }
 
+impl Listed {
+    // The sender's ID and the numbers behind it.
+    fn of(kind: u8, id: u16, numbers: &[u16]) -> Self
+        requires { length numbers.now ≤ 8 }
+        ensures { result ≡ listing kind (id ∷ numbers.now) }
+    {
+        let mut all = [id, 0, 0, 0, 0, 0, 0, 0, 0];
+        let count = numbers.len() + 1;
+        all[1..count].copy_from_slice(numbers);
+        Listed {
+            kind,
+            count,
+            numbers: all,
+        }
+    }
+}
+
+#[tactic(auto, unfolding(crate::specs::Read::read_into, wire::specs::Packet::over))]
 #[unsafe(no_mangle)]
 pub extern "C" fn station_read(
     packet: &[u8],
@@ -30,27 +48,20 @@ pub extern "C" fn station_read(
 ) -> u8
     ensures { ReadsForC (read_into (length numbers.old) (length bytes.old) packet.now) result numbers.old numbers.new bytes.old bytes.new count.old count.new }
 {
-    if numbers.len() < 9 {
-        return 10;
-    }
-    if bytes.len() < 16 {
-        return 10;
+    if numbers.len() < 9 || bytes.len() < 16 {
+        return Refusal::ShortBuffer.number();
     }
     let reading = read::read_packet(packet);
-    let answer = reading.answer;
-    match answer {
-        ReplyOrRefusal::Refused(refusal) => {
-            return refusal.number();
-        }
-        ReplyOrRefusal::Reply(reply) => {
+    match reading.answer {
+        Err(refusal) => refusal.number(),
+        Ok(reply) => {
             let list = list_reply(reading.sender, reply);
-            let item = reading.bytes;
-            let all = list.numbers;
-            put_numbers(numbers, &all, list.count);
-            let n = list.beside as usize;
-            digits::put_bytes(bytes, 0, &item[..n]);
+            numbers[..list.count].copy_from_slice(&list.numbers[..list.count]);
+            let held = reply_bytes(reply);
+            let n = held.count as usize;
+            bytes[..n].copy_from_slice(&held.bytes[..n]);
             *count = n;
-            return list.kind;
+            list.kind
         }
     }
 }
@@ -63,119 +74,71 @@ pub extern "C" fn station_reply_size(first: &[u8]) -> usize
     read::reply_size(first)
 }
 
-// A reply from a sender as a list of numbers.
+// A reply from a sender as a list of numbers. C is told its kind as a number, which stands in its case.
 fn list_reply(sender: u8, reply: Reply) -> Listed
-    ensures { Lists result sender reply }
+    ensures list { result ≡ listing (reply_kind (reply_of reply)) (sender ∷ numbers_of (reply_of reply)) }
+    ensures few { result.count ≤ 9 }
 {
     let id = sender as u16;
     match reply {
-        Reply::Null => {
-            return list_bytes(101, id, 0);
-        }
-        Reply::Got(status, p) => {
-            return list_parameter(102, id, status, p);
-        }
-        Reply::Set(status, p) => {
-            return list_parameter(103, id, status, p);
-        }
+        Reply::Null => Listed::of(101, id, &[]),
+        Reply::Got(status, p) => Listed::of(102, id, &parameter_numbers(status, p)),
+        Reply::Set(status, p) => Listed::of(103, id, &parameter_numbers(status, p)),
         Reply::PowerStatus(status, mode) => {
-            return list_status(104, id, status, mode.number());
+            Listed::of(104, id, &[status.number() as u16, mode.number()])
         }
-        Reply::PowerControl(status, mode) => {
-            return list_status(105, id, status, mode);
-        }
-        Reply::Date(answer) => {
-            return list_date(id, answer);
-        }
-        Reply::Item(item, beside) => {
-            return list_bytes(item_kind(item), id, beside);
-        }
-        Reply::TagWritten(status, beside) => {
-            return list_written(112, id, status, beside);
-        }
-        Reply::Schedule(answer) => {
-            return list_schedule(id, answer);
-        }
+        Reply::PowerControl(status, mode) => Listed::of(105, id, &[status.number() as u16, mode]),
+        Reply::Date(answer) => list_date(id, answer),
+        Reply::Item(item, _) => Listed::of(item_kind(item), id, &[]),
+        Reply::TagWritten(status, _) => Listed::of(112, id, &[status.number() as u16]),
+        Reply::Schedule(answer) => list_schedule(id, answer),
     }
 }
 
-// No numbers but the sender's ID, and so many bytes.
-fn list_bytes(kind: u8, id: u16, beside: u8) -> Listed
-    ensures { result ≡ listing kind (id ∷ []) beside }
+// The bytes of a serial number, a model or a tag, or the sixteen numbers of the program that was read or written.
+fn reply_bytes(reply: Reply) -> Octets
+    requires { ExactReply reply }
+    ensures bytes { octets_of result ≡ reply_bytes (reply_of reply) }
+    ensures count { result.count ≡ length (reply_bytes (reply_of reply)) }
 {
-    Listed {
-        kind,
-        count: 1,
-        numbers: [id, 0, 0, 0, 0, 0, 0, 0, 0],
-        beside,
-    }
-}
-
-// The status of a write, and so many bytes.
-fn list_written(kind: u8, id: u16, status: Status, beside: u8) -> Listed
-    ensures { result ≡ listing kind (id ∷ status_number status ∷ []) beside }
-{
-    let number = status.number() as u16;
-    Listed {
-        kind,
-        count: 2,
-        numbers: [id, number, 0, 0, 0, 0, 0, 0, 0],
-        beside,
+    match reply {
+        Reply::Item(_, held) => held,
+        Reply::TagWritten(_, tag) => tag,
+        Reply::Schedule(ScheduleAnswer::Read(numbers) | ScheduleAnswer::Written(_, numbers)) =>
+            Octets {
+                bytes: numbers,
+                count: 16,
+            },
+        _ => Octets::of(b""),
     }
 }
 
 // Result, page, code, operation type, max, value.
-fn list_parameter(kind: u8, id: u16, status: Status, p: Parameter) -> Listed
-    ensures { result ≡ listing kind (id ∷ status_number status ∷ p.page ∷ p.code ∷ p.operation ∷ p.largest ∷ p.value ∷ []) 0 }
+fn parameter_numbers(status: Status, p: Parameter) -> [u16; 6]
+    ensures { result ≡ status_number status ∷ p.page ∷ p.code ∷ p.operation ∷ p.largest ∷ p.value ∷ [] }
 {
-    let result = status.number() as u16;
-    let page = p.page as u16;
-    let code = p.code as u16;
-    let operation = p.operation as u16;
-    Listed {
-        kind,
-        count: 7,
-        numbers: [id, result, page, code, operation, p.largest, p.value, 0, 0],
-        beside: 0,
-    }
-}
-
-// Status, mode.
-fn list_status(kind: u8, id: u16, status: Status, mode: u16) -> Listed
-    ensures { result ≡ listing kind (id ∷ status_number status ∷ mode ∷ []) 0 }
-{
-    let number = status.number() as u16;
-    Listed {
-        kind,
-        count: 3,
-        numbers: [id, number, mode, 0, 0, 0, 0, 0, 0],
-        beside: 0,
-    }
+    [
+        status.number() as u16,
+        p.page as u16,
+        p.code as u16,
+        p.operation as u16,
+        p.largest,
+        p.value,
+    ]
 }
 
 // The seven fields of a date, behind a status where it was written.
 fn list_date(id: u16, answer: DateAnswer) -> Listed
-    ensures { result ≡ listing (reply_kind (date_answer_of answer)) (id ∷ numbers_of (date_answer_of answer)) 0 }
+    ensures list { result ≡ listing (reply_kind (date_answer_of answer)) (id ∷ numbers_of (date_answer_of answer)) }
+    ensures few { result.count ≤ 9 }
 {
     match answer {
-        DateAnswer::Read(date) => {
-            let d = date_numbers(date);
-            return Listed {
-                kind: 106,
-                count: 8,
-                numbers: [id, d[0], d[1], d[2], d[3], d[4], d[5], d[6], 0],
-                beside: 0,
-            };
-        }
+        DateAnswer::Read(date) => Listed::of(106, id, &date_numbers(date)),
         DateAnswer::Written(status, date) => {
-            let number = status.number() as u16;
-            let d = date_numbers(date);
-            return Listed {
-                kind: 107,
-                count: 9,
-                numbers: [id, number, d[0], d[1], d[2], d[3], d[4], d[5], d[6]],
-                beside: 0,
-            };
+            let mut numbers = [0u16; 8];
+            numbers[0] = status.number() as u16;
+            numbers[1..].copy_from_slice(&date_numbers(date));
+            Listed::of(107, id, &numbers)
         }
     }
 }
@@ -194,33 +157,18 @@ fn date_numbers(d: Date) -> [u16; 7]
     ]
 }
 
-// A program's sixteen numbers stand beside the reply as bytes, where it was read or written.
+// A status where a program was written or was to be enabled or disabled, and then the program and the enable.
 fn list_schedule(id: u16, answer: ScheduleAnswer) -> Listed
-    ensures { Lists result id (Reply.Schedule answer) }
+    ensures list { result ≡ listing (schedule_kind (schedule_answer_of answer)) (id ∷ schedule_numbers (schedule_answer_of answer)) }
+    ensures few { result.count ≤ 9 }
 {
     match answer {
-        ScheduleAnswer::Read => {
-            return list_bytes(113, id, 16);
-        }
-        ScheduleAnswer::Written(status) => {
-            return list_written(114, id, status, 16);
-        }
+        ScheduleAnswer::Read(_) => Listed::of(113, id, &[]),
+        ScheduleAnswer::Written(status, _) => Listed::of(114, id, &[status.number() as u16]),
         ScheduleAnswer::Enabled(status, program, enable) => {
-            return list_enabled(id, status, program, enable);
+            let numbers = [status.number() as u16, program as u16, enable as u16];
+            Listed::of(115, id, &numbers)
         }
-    }
-}
-
-// Status, program, enable.
-fn list_enabled(id: u16, status: Status, program: u8, enable: u8) -> Listed
-    ensures { result ≡ listing 115 (id ∷ status_number status ∷ program ∷ enable ∷ []) 0 }
-{
-    let number = status.number() as u16;
-    Listed {
-        kind: 115,
-        count: 4,
-        numbers: [id, number, program as u16, enable as u16, 0, 0, 0, 0, 0],
-        beside: 0,
     }
 }
 
@@ -232,17 +180,5 @@ fn item_kind(item: Item) -> u8
         Item::Model => 109,
         Item::Tag => 110,
         Item::FormerTag => 111,
-    }
-}
-
-// Writes the first numbers of a list at the start of a lent slice.
-fn put_numbers(out: &mut [u16], numbers: &[u16], count: usize)
-    requires { (count ≤ length numbers.now) × (length numbers.now ≤ length out.old) }
-    ensures { out.new ≡ over (take count numbers.now) out.old }
-{
-    let mut i: usize = 0;
-    while i < count {
-        out[i] = numbers[i];
-        i += 1;
     }
 }

@@ -1,6 +1,7 @@
 -- What the code does to some bytes of the store it does to the store: a field of them, the date, a range of them.
 use borrow.Author.Rules.{rules}
-use mathlib.Core.Bool.{Bool, true, ◌&&◌, and-true, and_assoc}
+use borrow.Author.Tests.{le-leb}
+use mathlib.Core.Bool.{Bool, true, ◌&&◌, and_assoc}
 use mathlib.Core.Path.{◌≡◌, refl, sym, ap, ap₂, ◌∙◌}
 use mathlib.Core.List.{List, [], ◌∷◌, ◌++◌}
 use Prim.Native.Nat.{ℕ, zero, suc, ◌+◌, ◌-◌, ◌*◌, ◌/◌, ◌%◌, ◌≤◌, ◌<◌}
@@ -8,13 +9,13 @@ use native.Mathlib.Nat.{suc-add, zero-add, add_assoc}
 use native.Mathlib.Omega.{arith}
 use lib.ListN.{length, set, take, drop, length-drop}
 use lib.Pow.{pow_mono}
-use lib.Seq.{get_or-take, get_or-drop, take-set-lt, drop-set-add, take-take, take-nil, length-take-le, take_at, paste}
-use Rattle.wire.proofs.CopyLaws.{copy_first}
+use lib.Seq.{get_or-take, get_or-drop, take-set-lt, drop-set-add, take-take, take-nil, length-take-le, take_at}
 use Rattle.bitfield.specs.Field.{with_bit, set_bit, get_field, put_field}
 use Rattle.bitfield.proofs.Laws.{get-lt}
 use Rattle.messages.specs.declared.message.Date.{Date}
 use Rattle.plan.specs.Stores.{Entry, range_of, copied}
 use Rattle.store.specs.Fields.{Field, fits, read, all_fit}
+use Rattle.store.specs.Layout.{power, setting_fields, date_fields, length_fields, fields_in_range}
 use Rattle.store.specs.Inner.{InStore}
 use Rattle.store.specs.Contents.{with_date, date_stores}
 
@@ -75,19 +76,17 @@ pub copied-of_first : (a e n : ℕ) (s : List ℕ) {h : List ℕ} → a ≤ e �
 copied-of_first a e n s l m p = rw p (ap (range_of a) (part_of-first a e n s l m))
 
 -- a field stored in a copy of the bytes around it is stored as that of the whole
-pub around_stored : (s : List ℕ) (at width v : ℕ) {w u : List ℕ} → InStore at width → length s ≡ 128
-    → w ≡ paste (0 ∷ 0 ∷ []) 0 (take ((at + width + 7) / 8 - at / 8) (drop (at / 8) s)) (length (take ((at + width + 7) / 8 - at / 8) (drop (at / 8) s)))
-    → u ≡ put_field w (at % 8) width v
+pub around_stored : (s : List ℕ) (at width v : ℕ) (rest : List ℕ) {part u : List ℕ} → InStore at width → length s ≡ 128
+    → part ≡ take ((at + width + 7) / 8 - at / 8) (drop (at / 8) s) → u ≡ put_field (part ++ rest) (at % 8) width v
     → take ((at + width + 7) / 8 - at / 8) u ≡ take ((at + width + 7) / 8 - at / 8) (drop (at / 8) (put_field s at width v))
-around_stored s at width v {w} {u} i l p q =
+around_stored s at width v rest {part} i l p q =
     let a = at / 8 in
     let n = (at + width + 7) / 8 - at / 8 in
-    let part : List ℕ = take n (drop a s) in
-    let few : length part ≡ n = length-take-le n (drop a s) (simp length-drop (omega arith)) in
+    let few : length part ≡ n = ap length p ∙ length-take-le n (drop a s) (simp length-drop (omega arith)) in
     let place : at ≡ 8 * a + at % 8 = omega arith in
-    ap (take n) (q ∙ ap (λ (x : List ℕ). put_field x (at % 8) width v) (p ∙ copy_first (0 ∷ 0 ∷ []) part))
-    ∙ take_put n (part ++ drop (length part) (0 ∷ 0 ∷ [])) (at % 8) width v (omega arith)
-    ∙ ap (λ (x : List ℕ). put_field x (at % 8) width v) (take_at part _ n few)
+    ap (take n) q
+    ∙ take_put n (part ++ rest) (at % 8) width v (omega arith)
+    ∙ ap (λ (x : List ℕ). put_field x (at % 8) width v) (take_at part _ n few ∙ p)
     ∙ sym (take_put n (drop a s) (at % 8) width v (omega arith))
     ∙ ap (take n) (sym (drop-put a s (at % 8) width v) ∙ ap (λ (x : ℕ). drop a (put_field s x width v)) (sym place))
 
@@ -105,19 +104,15 @@ only p q = q ∙ rw p
 pub and_same : {a b c d : Bool} → a ≡ c → b ≡ d → (a && b) ≡ (c && d)
 and_same p q = ap₂ ◌&&◌ p q
 
--- the same tests, the first one first
-abbrev fit_in_turn : Bool → List ℕ → List Field → Bool
-fit_in_turn b m [] = b
-fit_in_turn b m (f ∷ fs) = fit_in_turn (b && fits f (read m f)) m fs
-
-in_turn : (b : Bool) (m : List ℕ) (fs : List Field) → fit_in_turn b m fs ≡ (b && all_fit m fs)
-in_turn b m [] = sym (and-true b)
-in_turn b m (f ∷ fs) = in_turn (b && fits f (read m f)) m fs ∙ and_assoc b (fits f (read m f)) (all_fit m fs)
-
-pub all-in_turn : (m : List ℕ) (fs : List Field) {r : Bool} → r ≡ fit_in_turn true m fs → r ≡ all_fit m fs
-all-in_turn m fs e = e ∙ in_turn true m fs
-
 pub fit_append : (m : List ℕ) (fs gs : List Field) → all_fit m (fs ++ gs) ≡ (all_fit m fs && all_fit m gs)
 fit_append m [] gs = refl
 fit_append m (f ∷ fs) gs =
     ap (λ (b : Bool). fits f (read m f) && b) (fit_append m fs gs) ∙ sym (and_assoc (fits f (read m f)) (all_fit m fs) (all_fit m gs))
+
+-- any value of one bit is one that power may hold, so the other three groups of fields decide
+pub groups_decide : (m : List ℕ) → fields_in_range m ≡ (all_fit m setting_fields && (all_fit m date_fields && all_fit m length_fields))
+unfolding fields_in_range
+groups_decide m =
+    let p : fits power (read m power) ≡ true =
+    and_same (le-leb 0 (read m power) (omega arith)) (le-leb (read m power) 1 (omega (arith, get-lt m 53 1))) in
+    fit_append m setting_fields (power ∷ (date_fields ++ length_fields)) ∙ rw (p, fit_append m date_fields length_fields)

@@ -10,7 +10,7 @@ use native.Mathlib.Omega.{arith}
 use lib.Dec.{leb, eqb}
 use lib.ListN.{length}
 use borrow.Author.Tests.{leb-true, le-leb, eqb-true, eq-eqb, not-true}
-use Rattle.bitfield.specs.Field.{Apart, Inside}
+use Rattle.bitfield.specs.Field.{Apart}
 use Rattle.wire.proofs.Tests.{cond-by, both}
 use Rattle.store.specs.Fields.{write, fits, fits_in}
 use Rattle.store.specs.Layout.{power}
@@ -49,9 +49,6 @@ setting-field r m = each_setting (λ r. is_field (field_of r)) r refl m
 
 pub row_in-store : (r : Row) → Listed r → InStore r.at r.width
 row_in-store r m = field-in_store (field_of r) (setting-field r m)
-
-pub row_inside : (r : Row) (m : List ℕ) → Listed r → length m ≡ 128 → Inside m r.at r.width
-row_inside r m l n = let h = row_in-store r l in record { some = h.some; two = h.two; within = omega arith }
 
 -- the rows have their fields apart
 pub same-or_apart_row : (r t : Row) → Listed r → Listed t → (r ≡ t) ⊎ Apart r.at r.width t.at t.width

@@ -4,13 +4,8 @@ use Rattle.std.specs.Prelude.{Bool, ◌&&◌, List, ◌++◌, ℕ, ◌+◌, eqb,
 use Rattle.wire.specs.Digits.{padded}
 use Rattle.messages.specs.declared.message.Date.{Date}
 use Rattle.plan.specs.Stores.{Entry, range_of}
-use Rattle.store.specs.declared.contents.ItemBytes.{ItemBytes}
 use Rattle.store.specs.Fields.{read, write, fits, bytes_around}
 use Rattle.store.specs.Layout.{power, year, month, day, weekday, hour, minute, tag_length, former_length, tag_place, former_tag_place}
-
--- what an item of the code is: the first bytes of the array, as many as it counts
-abbrev pub item_bytes : ItemBytes → List ℕ
-item_bytes t = take t.count t.bytes
 
 -- ---- power
 

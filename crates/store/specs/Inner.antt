@@ -11,12 +11,6 @@ pub record InStore (at width : ℕ) : Type 0 where
   pub two : at % 8 + width ≤ 16
   pub within : at + width ≤ 1024
 
--- some bits of bytes 0 to 11, within two of them
-pub record InHead (at width : ℕ) : Type 0 where
-  pub some : 0 < width
-  pub two : at % 8 + width ≤ 16
-  pub within : at + width ≤ 96
-
 -- the field of a setting holds a value that it may hold
 unfoldable pub row_fits : List ℕ → Row → Bool
 row_fits m r = fits (field_of r) (read m (field_of r))

@@ -6,7 +6,6 @@ use Rattle.std.proofs.Math.Option.{Option, none, some}
 use Rattle.store.specs.Fields.{Field, field, read, fits_in}
 use Rattle.store.specs.declared.settings.Values.{Values}
 use Rattle.store.specs.declared.settings.Row.{Row}
-use Rattle.store.specs.declared.settings.Found.{Found}
 
 -- ---- the table
 
@@ -107,8 +106,3 @@ field_of r = field r.at r.width (least_kept r.values) (most_kept r.values) (kept
 -- the current value
 unfoldable pub current : List ℕ → Row → ℕ
 current m r = shown r.values (read m (field_of r))
-
--- what the code finds at a page and a code
-abbrev pub found : Found → Option Row
-found (Found.Listed r) = some r
-found Found.Unlisted = none

@@ -3,10 +3,11 @@ ghost use Rattle.std.specs.Prelude.{◌≡◌, true, length};
 ghost use Rattle.plan.specs.Plans.{stores_of};
 ghost use Rattle.store.specs.Fields.{all_fit, field_stores};
 ghost use Rattle.store.specs.Layout.{setting_fields};
-ghost use Rattle.store.specs.Settings.{input_accepts, input_kept, input_shown, accepts, kept, shown, least_kept, most_kept, range, row, backlight, input, balance, pip_h, pip_v, ambient_low, ambient_high, tile, settings, is_at, setting_at, Listed, field_of, current, found};
+ghost use Rattle.store.specs.Settings.{input_accepts, input_kept, input_shown, accepts, kept, shown, least_kept, most_kept, backlight, input, balance, pip_h, pip_v, ambient_low, ambient_high, tile, settings, is_at, setting_at, Listed, field_of, current};
+ghost use Rattle.wire.specs.Digits.{found};
 ghost use Rattle.store.specs.Inner.{row_fits};
 
-use crate::fields;
+use crate::fields::Field;
 use plan::Plan;
 
 // How many settings there are.
@@ -31,11 +32,13 @@ pub struct Row {
     pub width: usize,
 }
 
-// What stands at a page and a code.
-#[derive(Clone, Copy)]
-pub enum Found {
-    Listed(Row),
-    Unlisted,
+// A setting's type holds its fixed numbers, and the row that they make. Of each it is proved that the row is the one that the definitions name.
+pub trait Setting {
+    ghost use Rattle.store.specs.declared.settings.Row.{Row};
+
+    ghost ROW: { Row };
+
+    const ROW: Row;
 }
 
 impl Values {
@@ -43,81 +46,54 @@ impl Values {
     pub fn accepts(self, v: u16) -> bool
         ensures { result ≡ accepts self v }
     {
-        let Values::Range { least, most } = self else {
-            return Input::accepts(v);
-        };
-        (least <= v) & (v <= most)
+        match self {
+            Values::Range { least, most } => (least <= v) & (v <= most),
+            Values::Inputs => Input::accepts(v),
+        }
     }
 
     // What is kept of an accepted value.
     pub fn kept(self, v: u16) -> u16
         ensures { result ≡ kept self v }
     {
-        let Values::Inputs = self else {
-            return v;
-        };
-        Input::kept(v)
+        match self {
+            Values::Range { .. } => v,
+            Values::Inputs => Input::kept(v),
+        }
     }
 
     // What is shown of what is kept.
     pub fn shown(self, k: u16) -> u16
         ensures { result ≡ shown self k }
     {
-        let Values::Inputs = self else {
-            return k;
-        };
-        Input::shown(k)
+        match self {
+            Values::Range { .. } => k,
+            Values::Inputs => Input::shown(k),
+        }
     }
 
     // The least that is kept.
     fn least_kept(self) -> u16
         ensures { result ≡ least_kept self }
     {
-        let Values::Range { least, most: _ } = self else {
-            return 0;
-        };
-        least
+        match self {
+            Values::Range { least, .. } => least,
+            Values::Inputs => 0,
+        }
     }
 
     // The most that is kept.
     fn most_kept(self) -> u16
         ensures { result ≡ most_kept self }
     {
-        let Values::Range { least: _, most } = self else {
-            return 2;
-        };
-        most
+        match self {
+            Values::Range { most, .. } => most,
+            Values::Inputs => 2,
+        }
     }
 }
 
 impl Row {
-    // The row of a setting that takes every value from the least to the largest.
-    fn ranged(
-        page: u8,
-        code: u8,
-        least: u16,
-        largest: u16,
-        unused: u16,
-        at: usize,
-        width: usize,
-    ) -> Self
-        ensures { result ≡ row page code (range least largest) largest unused at width }
-    {
-        let values = Values::Range {
-            least,
-            most: largest,
-        };
-        Row {
-            page,
-            code,
-            values,
-            largest,
-            unused,
-            at,
-            width,
-        }
-    }
-
     // Whether a page and a code are the row's.
     fn is_at(self, page: u8, code: u8) -> bool
         ensures { result ≡ is_at page code self }
@@ -125,30 +101,36 @@ impl Row {
         (page == self.page) & (code == self.code)
     }
 
+    // Where its field lies.
+    fn field(self) -> Field
+        requires { Listed self }
+        ensures { (result.at ≡ self.at) × (result.width ≡ self.width) }
+    {
+        Field {
+            at: self.at,
+            width: self.width,
+        }
+    }
+
     // The current value, as a Get shows it.
+    #[tactic(auto, unfolding(crate::specs::Settings::current))]
     pub fn current(self, store: &[u8]) -> u16
         requires store_len { length store.now ≡ 128 }
         requires listed { Listed self }
         ensures { result ≡ current store.now self }
     {
-        let values = self.values;
-        values.shown(bitfield::get(store, self.at, self.width))
+        self.values.shown(self.field().get(store))
     }
 
     // Whether its field holds a value that it may hold.
+    #[tactic(auto, unfolding(crate::specs::Inner::row_fits))]
     fn is_in_range(self, store: &[u8]) -> bool
         requires store_len { length store.now ≡ 128 }
         requires listed { Listed self }
         ensures { result ≡ row_fits store.now self }
     {
-        let values = self.values;
-        fields::fits(
-            store,
-            self.at,
-            self.width,
-            values.least_kept(),
-            values.most_kept(),
-        )
+        self.field()
+            .fits(store, self.values.least_kept(), self.values.most_kept())
     }
 
     // What a Set of an accepted value stores.
@@ -158,8 +140,7 @@ impl Row {
         requires v_value { accepts self.values v ≡ true }
         ensures { stores_of result ≡ field_stores store.now (field_of self) (kept self.values v) }
     {
-        let values = self.values;
-        fields::field_stores(store, self.at, self.width, values.kept(v))
+        self.field().stores(store, self.values.kept(v))
     }
 }
 
@@ -168,31 +149,28 @@ fn rows() -> [Row; SETTINGS]
     ensures { result ≡ settings }
 {
     [
-        Backlight::row(),
-        Input::row(),
-        Balance::row(),
-        PipH::row(),
-        PipV::row(),
-        AmbientLow::row(),
-        AmbientHigh::row(),
-        Tile::row(),
+        Backlight::ROW,
+        Input::ROW,
+        Balance::ROW,
+        PipH::ROW,
+        PipV::ROW,
+        AmbientLow::ROW,
+        AmbientHigh::ROW,
+        Tile::ROW,
     ]
 }
 
 // The setting of a page and a code.
-pub fn setting_at(page: u8, code: u8) -> Found
+pub fn setting_at(page: u8, code: u8) -> Option<Row>
     ensures { found result ≡ setting_at page code }
 {
     let rows = rows();
-    let mut i = 0;
-    while i < SETTINGS {
-        let row = rows[i];
+    for row in &rows {
         if row.is_at(page, code) {
-            return Found::Listed(row);
+            return Some(*row);
         }
-        i += 1;
     }
-    Found::Unlisted
+    None
 }
 
 // Whether each setting's field holds a value that it may hold.
@@ -202,11 +180,8 @@ pub fn in_range(store: &[u8]) -> bool
 {
     let rows = rows();
     let mut all = true;
-    let mut i = 0;
-    while i < SETTINGS {
-        let row = rows[i];
-        all = all & row.is_in_range(store);
-        i += 1;
+    for row in &rows {
+        all &= row.is_in_range(store);
     }
     all
 }
@@ -226,20 +201,23 @@ impl Backlight {
     pub const WIDTH: usize = 7;
 
     pub const AT: usize = 8;
+}
 
-    pub fn row() -> Row
-        ensures { result ≡ backlight }
-    {
-        Row::ranged(
-            Self::PAGE,
-            Self::CODE,
-            0,
-            Self::LARGEST,
-            Self::UNUSED,
-            Self::AT,
-            Self::WIDTH,
-        )
-    }
+impl Setting for Backlight {
+    ghost ROW = { backlight };
+
+    const ROW: Row = Row {
+        page: Self::PAGE,
+        code: Self::CODE,
+        values: Values::Range {
+            least: 0,
+            most: Self::LARGEST,
+        },
+        largest: Self::LARGEST,
+        unused: Self::UNUSED,
+        at: Self::AT,
+        width: Self::WIDTH,
+    };
 }
 
 #[derive(Clone, Copy)]
@@ -257,61 +235,49 @@ impl Input {
     pub const WIDTH: usize = 2;
 
     pub const AT: usize = 15;
+}
 
-    pub fn row() -> Row
-        ensures { result ≡ input }
-    {
-        let values = Values::Inputs;
-        Row {
-            page: Self::PAGE,
-            code: Self::CODE,
-            values,
-            largest: Self::LARGEST,
-            unused: Self::UNUSED,
-            at: Self::AT,
-            width: Self::WIDTH,
-        }
-    }
+impl Setting for Input {
+    ghost ROW = { input };
 
+    const ROW: Row = Row {
+        page: Self::PAGE,
+        code: Self::CODE,
+        values: Values::Inputs,
+        largest: Self::LARGEST,
+        unused: Self::UNUSED,
+        at: Self::AT,
+        width: Self::WIDTH,
+    };
+}
+
+impl Input {
     pub fn accepts(v: u16) -> bool
         ensures { result ≡ input_accepts v }
     {
-        if v == 1 {
-            return true;
-        }
-        if v == 3 {
-            return true;
-        }
-        if v == 4 {
-            return true;
-        }
-        v == Self::LARGEST
+        matches!(v, 1 | 3 | 4) | (v == Self::LARGEST)
     }
 
     // 0, 1, 2 for 1, 3, 17; 4 is kept as 17.
     pub fn kept(v: u16) -> u16
         ensures { result ≡ input_kept v }
     {
-        if v == 1 {
-            return 0;
+        match v {
+            1 => 0,
+            3 => 1,
+            _ => 2,
         }
-        if v == 3 {
-            return 1;
-        }
-        2
     }
 
     // 1, 3, 17 for 0, 1, 2.
     pub fn shown(k: u16) -> u16
         ensures { result ≡ input_shown k }
     {
-        if k == 0 {
-            return 1;
+        match k {
+            0 => 1,
+            1 => 3,
+            _ => Self::LARGEST,
         }
-        if k == 1 {
-            return 3;
-        }
-        Self::LARGEST
     }
 }
 
@@ -330,20 +296,23 @@ impl Balance {
     pub const WIDTH: usize = 6;
 
     pub const AT: usize = 17;
+}
 
-    pub fn row() -> Row
-        ensures { result ≡ balance }
-    {
-        Row::ranged(
-            Self::PAGE,
-            Self::CODE,
-            0,
-            Self::LARGEST,
-            Self::UNUSED,
-            Self::AT,
-            Self::WIDTH,
-        )
-    }
+impl Setting for Balance {
+    ghost ROW = { balance };
+
+    const ROW: Row = Row {
+        page: Self::PAGE,
+        code: Self::CODE,
+        values: Values::Range {
+            least: 0,
+            most: Self::LARGEST,
+        },
+        largest: Self::LARGEST,
+        unused: Self::UNUSED,
+        at: Self::AT,
+        width: Self::WIDTH,
+    };
 }
 
 #[derive(Clone, Copy)]
@@ -361,20 +330,23 @@ impl PipH {
     pub const WIDTH: usize = 7;
 
     pub const AT: usize = 23;
+}
 
-    pub fn row() -> Row
-        ensures { result ≡ pip_h }
-    {
-        Row::ranged(
-            Self::PAGE,
-            Self::CODE,
-            0,
-            Self::LARGEST,
-            Self::UNUSED,
-            Self::AT,
-            Self::WIDTH,
-        )
-    }
+impl Setting for PipH {
+    ghost ROW = { pip_h };
+
+    const ROW: Row = Row {
+        page: Self::PAGE,
+        code: Self::CODE,
+        values: Values::Range {
+            least: 0,
+            most: Self::LARGEST,
+        },
+        largest: Self::LARGEST,
+        unused: Self::UNUSED,
+        at: Self::AT,
+        width: Self::WIDTH,
+    };
 }
 
 #[derive(Clone, Copy)]
@@ -392,20 +364,23 @@ impl PipV {
     pub const WIDTH: usize = 7;
 
     pub const AT: usize = 30;
+}
 
-    pub fn row() -> Row
-        ensures { result ≡ pip_v }
-    {
-        Row::ranged(
-            Self::PAGE,
-            Self::CODE,
-            0,
-            Self::LARGEST,
-            Self::UNUSED,
-            Self::AT,
-            Self::WIDTH,
-        )
-    }
+impl Setting for PipV {
+    ghost ROW = { pip_v };
+
+    const ROW: Row = Row {
+        page: Self::PAGE,
+        code: Self::CODE,
+        values: Values::Range {
+            least: 0,
+            most: Self::LARGEST,
+        },
+        largest: Self::LARGEST,
+        unused: Self::UNUSED,
+        at: Self::AT,
+        width: Self::WIDTH,
+    };
 }
 
 #[derive(Clone, Copy)]
@@ -423,20 +398,23 @@ impl AmbientLow {
     pub const WIDTH: usize = 7;
 
     pub const AT: usize = 37;
+}
 
-    pub fn row() -> Row
-        ensures { result ≡ ambient_low }
-    {
-        Row::ranged(
-            Self::PAGE,
-            Self::CODE,
-            0,
-            Self::LARGEST,
-            Self::UNUSED,
-            Self::AT,
-            Self::WIDTH,
-        )
-    }
+impl Setting for AmbientLow {
+    ghost ROW = { ambient_low };
+
+    const ROW: Row = Row {
+        page: Self::PAGE,
+        code: Self::CODE,
+        values: Values::Range {
+            least: 0,
+            most: Self::LARGEST,
+        },
+        largest: Self::LARGEST,
+        unused: Self::UNUSED,
+        at: Self::AT,
+        width: Self::WIDTH,
+    };
 }
 
 #[derive(Clone, Copy)]
@@ -454,20 +432,23 @@ impl AmbientHigh {
     pub const WIDTH: usize = 7;
 
     pub const AT: usize = 44;
+}
 
-    pub fn row() -> Row
-        ensures { result ≡ ambient_high }
-    {
-        Row::ranged(
-            Self::PAGE,
-            Self::CODE,
-            0,
-            Self::LARGEST,
-            Self::UNUSED,
-            Self::AT,
-            Self::WIDTH,
-        )
-    }
+impl Setting for AmbientHigh {
+    ghost ROW = { ambient_high };
+
+    const ROW: Row = Row {
+        page: Self::PAGE,
+        code: Self::CODE,
+        values: Values::Range {
+            least: 0,
+            most: Self::LARGEST,
+        },
+        largest: Self::LARGEST,
+        unused: Self::UNUSED,
+        at: Self::AT,
+        width: Self::WIDTH,
+    };
 }
 
 #[derive(Clone, Copy)]
@@ -485,18 +466,21 @@ impl Tile {
     pub const WIDTH: usize = 2;
 
     pub const AT: usize = 51;
+}
 
-    pub fn row() -> Row
-        ensures { result ≡ tile }
-    {
-        Row::ranged(
-            Self::PAGE,
-            Self::CODE,
-            1,
-            Self::LARGEST,
-            Self::UNUSED,
-            Self::AT,
-            Self::WIDTH,
-        )
-    }
+impl Setting for Tile {
+    ghost ROW = { tile };
+
+    const ROW: Row = Row {
+        page: Self::PAGE,
+        code: Self::CODE,
+        values: Values::Range {
+            least: 1,
+            most: Self::LARGEST,
+        },
+        largest: Self::LARGEST,
+        unused: Self::UNUSED,
+        at: Self::AT,
+        width: Self::WIDTH,
+    };
 }

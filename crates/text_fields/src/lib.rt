@@ -1,147 +1,83 @@
 // The fields of a text.
 #![tactic(auto)]
 
-ghost use Rattle.std.specs.Prelude.{◌≡◌, ◌+◌, ◌<◌, length};
-ghost use Rattle.wire.specs.Digits.{octet, FindsOctets};
+ghost use Rattle.std.specs.Prelude.{◌≡◌, ◌+◌, ◌<◌, ◌≤◌, length, true};
+ghost use Rattle.std.proofs.Math.Option.{map};
+ghost use Rattle.wire.specs.Digits.{found};
+ghost use Rattle.messages.specs.View.{status_number, mode_number};
 ghost use Rattle.messages.specs.Read.{begins_with, is_name, flag_at, mode_at, date_in, numbers_in};
-ghost use Rattle.text_fields.specs.Inner.{behind_year};
-ghost use Rattle.text_fields.specs.View.{found_status, found_mode, found_date};
 
 use messages::message::{Date, PowerMode, Status};
 use wire::digits;
-use wire::digits::{Count, Octet, Octets, Word};
-
-#[derive(Clone, Copy)]
-pub enum StatusField {
-    Is(Status),
-    Bad,
-}
-
-#[derive(Clone, Copy)]
-pub enum ModeField {
-    Is(PowerMode),
-    Bad,
-}
-
-#[derive(Clone, Copy)]
-pub enum DateField {
-    Is(Date),
-    Bad,
-}
 
 // Whether a text begins with a name.
 pub fn begins_with(name: &[u8], text: &[u8]) -> bool
-    ensures { result ≡ begins_with name.now text.now }
+    ensures value { result ≡ begins_with name.now text.now }
+    ensures room { result ≡ true → length name.now ≤ length text.now }
 {
-    let n = name.len();
-    if text.len() < n {
-        return false;
-    }
-    let mut i: usize = 0;
-    while i < n {
-        if name[i] != text[i] {
-            return false;
-        }
-        i += 1;
-    }
-    true
+    text.starts_with(name)
 }
 
 // Whether a text is a name.
 pub fn is_name(name: &[u8], text: &[u8]) -> bool
     ensures { result ≡ is_name name.now text.now }
 {
-    if text.len() != name.len() {
-        return false;
-    }
-    begins_with(name, text)
+    name == text
 }
 
 // Two digits that are 00 or 01.
-pub fn flag_at(text: &[u8], at: usize) -> Octet
+#[tactic(auto, unfolding(messages::specs::Read::flag_at))]
+pub fn flag_at(text: &[u8], at: usize) -> Option<u8>
     requires { at + 1 < length text.now }
-    ensures { octet result ≡ flag_at text.now at }
+    ensures { found result ≡ flag_at text.now at }
 {
-    let Octet::Value(n) = digits::two_at(text, at) else {
-        return Octet::Bad;
-    };
-    if n <= 1 {
-        return Octet::Value(n);
-    }
-    Octet::Bad
+    let n = digits::two_at(text, at)?;
+    if n <= 1 { Some(n) } else { None }
 }
 
-// A result or a status.
-pub fn status_at(text: &[u8], at: usize) -> StatusField
+// A result or a status. This test and the match of `mode_at` are the only places that make a Status or a PowerMode of a number, so a TryFrom would move them and no more.
+#[tactic(auto, unfolding(messages::specs::Read::flag_at))]
+pub fn status_at(text: &[u8], at: usize) -> Option<Status>
     requires { at + 1 < length text.now }
-    ensures { found_status result ≡ flag_at text.now at }
+    ensures { map status_number (found result) ≡ flag_at text.now at }
 {
-    let Octet::Value(n) = flag_at(text, at) else {
-        return StatusField::Bad;
-    };
+    let n = flag_at(text, at)?;
     if n == 0 {
-        return StatusField::Is(Status::Acknowledged);
+        return Some(Status::Acknowledged);
     }
-    StatusField::Is(Status::Refused)
+    Some(Status::Refused)
 }
 
 // The mode of a power status.
-pub fn mode_at(text: &[u8], at: usize) -> ModeField
+#[tactic(auto, unfolding(messages::specs::Read::mode_at))]
+pub fn mode_at(text: &[u8], at: usize) -> Option<PowerMode>
     requires { at + 3 < length text.now }
-    ensures { found_mode result ≡ mode_at text.now at }
+    ensures { map mode_number (found result) ≡ mode_at text.now at }
 {
-    let Word::Value(n) = digits::four_at(text, at) else {
-        return ModeField::Bad;
-    };
-    if n == 1 {
-        return ModeField::Is(PowerMode::On);
+    match digits::four_at(text, at)? {
+        1 => Some(PowerMode::On),
+        2 => Some(PowerMode::Sleep),
+        4 => Some(PowerMode::Standby),
+        _ => None,
     }
-    if n == 2 {
-        return ModeField::Is(PowerMode::Sleep);
-    }
-    if n == 4 {
-        return ModeField::Is(PowerMode::Standby);
-    }
-    ModeField::Bad
 }
 
 // The seven fields of a date.
-pub fn date_in(text: &[u8]) -> DateField
-    ensures { found_date result ≡ date_in text.now }
+#[tactic(auto, unfolding(messages::specs::Read::date_in))]
+pub fn date_in(text: &[u8]) -> Option<Date>
+    ensures { found result ≡ date_in text.now }
 {
     if text.len() != 14 {
-        return DateField::Bad;
+        return None;
     }
-    let Octet::Value(year) = digits::two_at(text, 0) else {
-        return DateField::Bad;
-    };
-    date_of_year(year, text)
-}
-
-// The six fields behind the year.
-fn date_of_year(year: u8, text: &[u8]) -> DateField
-    requires { length text.now ≡ 14 }
-    ensures { found_date result ≡ behind_year year text.now }
-{
-    let Octet::Value(month) = digits::two_at(text, 2) else {
-        return DateField::Bad;
-    };
-    let Octet::Value(day) = digits::two_at(text, 4) else {
-        return DateField::Bad;
-    };
-    let Octet::Value(weekday) = digits::two_at(text, 6) else {
-        return DateField::Bad;
-    };
-    let Octet::Value(hour) = digits::two_at(text, 8) else {
-        return DateField::Bad;
-    };
-    let Octet::Value(minute) = digits::two_at(text, 10) else {
-        return DateField::Bad;
-    };
-    let Octet::Value(daylight) = digits::two_at(text, 12) else {
-        return DateField::Bad;
-    };
-    DateField::Is(Date {
+    let year = digits::two_at(text, 0)?;
+    let month = digits::two_at(text, 2)?;
+    let day = digits::two_at(text, 4)?;
+    let weekday = digits::two_at(text, 6)?;
+    let hour = digits::two_at(text, 8)?;
+    let minute = digits::two_at(text, 10)?;
+    let daylight = digits::two_at(text, 12)?;
+    Some(Date {
         year,
         month,
         day,
@@ -153,14 +89,13 @@ fn date_of_year(year: u8, text: &[u8]) -> DateField
 }
 
 // The sixteen numbers of a schedule, two digits each.
-pub fn numbers_in(text: &[u8]) -> Octets
-    ensures { FindsOctets result (numbers_in text.now) }
+#[tactic(auto, unfolding(messages::specs::Read::numbers_in))]
+pub fn numbers_in(text: &[u8]) -> Option<[u8; 16]>
+    ensures { found result ≡ numbers_in text.now }
 {
     if text.len() != 32 {
-        return Octets {
-            count: Count::Bad,
-            bytes: [0u8; 16],
-        };
+        return None;
     }
-    digits::octets_in(text)
+    let numbers = digits::octets_in(text)?;
+    Some(numbers.bytes)
 }

@@ -1,6 +1,7 @@
 -- What the tests on an answer say of it, how long a line and its parts are, and that parts written one behind the other are the line.
 use Prim.Native.Nat.{ℕ, ◌+◌, ◌≤◌}
-use mathlib.Core.Bool.{true, false}
+use mathlib.Core.Bool.{Bool, true, false, not}
+use borrow.Author.Tests.{not-true, not-false}
 use mathlib.Core.List.{List, [], ◌∷◌, ◌++◌, append_assoc}
 use mathlib.Core.Path.{◌≡◌, refl, ◌∙◌}
 use native.Mathlib.Omega.{arith}
@@ -24,15 +25,6 @@ use Rattle.transcript.proofs.PutLaws.{put-none, put_first}
 use Rattle.transcript.proofs.DecimalLaws.{digits-few}
 
 -- ---- the tests on an answer
-
-is_told_law : (a : Answer) → (a ≡ Answer.Waiting → ⊥) → (a ≡ Answer.More → ⊥) → is_told (answer_of a) ≡ true
-is_told_law Answer.Waiting k l = absurd (k refl)
-is_told_law Answer.Silent k l = refl
-is_told_law Answer.Begun k l = refl
-is_told_law Answer.More k l = absurd (l refl)
-is_told_law Answer.Ended k l = refl
-is_told_law (Answer.Refused r) k l = refl
-is_told_law (Answer.Reply n) k l = refl
 
 pub not_begun : (a : Answer) → (a ≡ Answer.Begun → ⊥) → is_begun (answer_of a) ≡ false
 not_begun Answer.Waiting k = refl
@@ -89,13 +81,13 @@ line_most at a lent n e h = rw e (line_few at a lent h)
 -- an answer that is told: n₁, n₂ and n₃ are the places behind its number, word and data, each within its most bytes
 module _ (at : ℕ) (a : Answer) (lent o : List ℕ) (n₁ : ℕ) (o₁ : List ℕ) (n₂ : ℕ) (o₂ : List ℕ) (n₃ : ℕ) (o₃ : List ℕ)
     (p₁ : PutFew 20 o 0 (decimal at) n₁ o₁) (p₂ : PutFew 8 o₁ n₁ (word_of (answer_of a)) n₂ o₂)
-    (p₃ : PutFew 129 o₂ n₂ (data_of (answer_of a) lent) n₃ o₃) (k : (a ≡ Answer.Waiting → ⊥)) (l : (a ≡ Answer.More → ⊥)) where
+    (p₃ : PutFew 129 o₂ n₂ (data_of (answer_of a) lent) n₃ o₃) (t : Bool) (told : t ≡ is_told (answer_of a)) (k : not t ≡ false) where
   abbrev front : List ℕ
   front = decimal at ++ word_of (answer_of a) ++ data_of (answer_of a) lent
 
   whole-line : line_of at (answer_of a) lent ≡ front ++ (0x0A ∷ [])
   unfolding line_of
-  whole-line = rw (is_told_law a k l) (simp append_assoc)
+  whole-line = rw (← told, not-false t k) (simp append_assoc)
 
   front_length : length front ≡ n₃
   front_length =
@@ -119,22 +111,19 @@ module _ (at : ℕ) (a : Answer) (lent o : List ℕ) (n₁ : ℕ) (o₁ : List �
       rw (whole-line, f₃) (over-set front o n₃ front_length 0x0A (omega arith))
 
 -- an answer that is not told has no line
-module _ (at : ℕ) (a b : Answer) (lent : List ℕ) (e : a ≡ b) (t : is_told (answer_of b) ≡ false) where
+module _ (at : ℕ) (a : Answer) (lent : List ℕ) (t : Bool) (told : t ≡ is_told (answer_of a)) (k : not t ≡ true) where
   pub untold-count : 0 ≡ length (line_of at (answer_of a) lent)
   unfolding line_of
-  untold-count = rw (e, t)
+  untold-count = rw (← told, not-true t k)
 
   pub untold-over : (o : List ℕ) → o ≡ over (line_of at (answer_of a) lent) o
   unfolding line_of over
-  untold-over o = rw (e, t)
+  untold-over o = rw (← told, not-true t k)
 
 -- ---- a word and its data, by the answer
 
 module _ (a : Answer) (o : List ℕ) (at : ℕ) where
   module _ (r : ℕ) (o₁ : List ℕ) where
-    pub word-put : (b : Answer) → a ≡ b → Put o at (word_of (answer_of b)) r o₁ → Put o at (word_of (answer_of a)) r o₁
-    word-put b e p = rw e p
-
     pub refusal-put : (lent : List ℕ) (q : Refusal) (n : ℕ) → a ≡ Answer.Refused q → n ≡ number_of q → Put o at (0x20 ∷ decimal n) r o₁
         → Put o at (data_of (answer_of a) lent) r o₁
     refusal-put lent q n e h p = rw (e, ← h) p
@@ -142,9 +131,6 @@ module _ (a : Answer) (o : List ℕ) (at : ℕ) where
     pub reply-put : (lent : List ℕ) (k : ℕ) → a ≡ Answer.Reply k → Put o at (0x20 ∷ hex_of (take k lent)) r o₁
         → Put o at (data_of (answer_of a) lent) r o₁
     reply-put lent k e p = rw e p
-
-  pub no_word_put : (b : Answer) → a ≡ b → word_of (answer_of b) ≡ [] → Put o at (word_of (answer_of a)) at o
-  no_word_put b e w = put-none o at (word_of (answer_of a)) (rw (e, w))
 
   pub no_data_put : (lent : List ℕ) → IsNoRefusal a → IsNoReply a → Put o at (data_of (answer_of a) lent) at o
   no_data_put lent k l = put-none o at _ (no_data a lent k l)

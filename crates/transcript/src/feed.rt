@@ -41,21 +41,15 @@ fn tell(done: Done, store: &mut [u8], at: u64, reply: &mut [u8], out: &mut [u8])
     requires { (length reply.old ≡ 64) × (512 ≤ length out.old) }
     ensures { Told (transcribed_from at (gave done store.old reply.old)) (state_of result.board) result.length store.new reply.new out.old out.new }
 {
-    let answer = done.answer;
-    let next = done.board;
+    let Done { board, answer } = done;
     let n = put_answer(at, answer, reply, out);
     let Answer::Begun = answer else {
-        return Given {
-            board: next,
-            length: n,
-        };
+        return Given { board, length: n };
     };
-    let erased = tell_erase(next, store, at, reply, &mut out[n..]);
-    let after = erased.board;
-    let m = erased.length;
+    let erased = tell_erase(board, store, at, reply, &mut out[n..]);
     Given {
-        board: after,
-        length: n + m,
+        length: n + erased.length,
+        ..erased
     }
 }
 
@@ -65,11 +59,9 @@ fn tell_erase(board: Board, store: &mut [u8], at: u64, reply: &mut [u8], out: &m
     ensures { Told (erased_from at (state_of board) store.old reply.old) (state_of result.board) result.length store.new reply.new out.old out.new × (result.length ≤ 159) }
 {
     let last = run_erase(board, store, reply);
-    let answer = last.answer;
-    let next = last.board;
-    let length = put_answer(at, answer, reply, out);
+    let length = put_answer(at, last.answer, reply, out);
     Given {
-        board: next,
+        board: last.board,
         length,
     }
 }
@@ -90,11 +82,8 @@ fn run_erase(board: Board, store: &mut [u8], reply: &mut [u8]) -> Done
         board,
         answer: Answer::Begun,
     };
-    let mut i: u8 = 0;
-    while i < 128 {
-        let next = done.board;
-        done = next.step(store, reply);
-        i += 1;
+    for _ in 0u8..128 {
+        done = done.board.step(store, reply);
     }
     done
 }

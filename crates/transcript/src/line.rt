@@ -3,7 +3,7 @@ ghost use Rattle.std.specs.Prelude.{◌∷◌, ◌≡◌, ◌+◌, ◌≤◌, le
 ghost use Rattle.wire.specs.Digits.{hex_of};
 ghost use Rattle.wire.specs.Packet.{over};
 ghost use Rattle.board.specs.View.{answer_of};
-ghost use Rattle.transcript.specs.Transcript.{decimal, word_of, data_of, line_of};
+ghost use Rattle.transcript.specs.Transcript.{decimal, word_of, data_of, is_told, line_of};
 ghost use Rattle.transcript.specs.Inner.{Put, PutFew};
 
 use crate::decimal;
@@ -15,10 +15,7 @@ pub fn put_line(at: u64, answer: Answer, reply: &[u8], out: &mut [u8]) -> usize
     requires { (length reply.now ≡ 64) × (192 ≤ length out.old) }
     ensures { (result ≡ length (line_of at (answer_of answer) reply.now)) × (out.new ≡ over (line_of at (answer_of answer) reply.now) out.old) }
 {
-    if let Answer::Waiting = answer {
-        return 0;
-    }
-    if let Answer::More = answer {
+    if !is_told(answer) {
         return 0;
     }
     let number = put_count(out, 0, at);
@@ -28,33 +25,25 @@ pub fn put_line(at: u64, answer: Answer, reply: &[u8], out: &mut [u8]) -> usize
     end + 1
 }
 
+// Whether an answer has a line.
+fn is_told(answer: Answer) -> bool
+    ensures { result ≡ is_told (answer_of answer) }
+{
+    !matches!(answer, Answer::Waiting | Answer::More)
+}
+
 // Writes the kind of an answer behind a space, from a place on; the place behind it.
 fn put_word(out: &mut [u8], at: usize, answer: Answer) -> usize
     requires { at + 8 ≤ length out.old }
     ensures { PutFew 8 out.old at (word_of (answer_of answer)) result out.new }
 {
     match answer {
-        Answer::Silent => {
-            return put_text(out, at, b" silent");
-        }
-        Answer::Begun => {
-            return put_text(out, at, b" begun");
-        }
-        Answer::Ended => {
-            return put_text(out, at, b" ended");
-        }
-        Answer::Refused(_) => {
-            return put_text(out, at, b" refused");
-        }
-        Answer::Reply(_) => {
-            return put_text(out, at, b" reply");
-        }
-        Answer::Waiting => {
-            return at;
-        }
-        Answer::More => {
-            return at;
-        }
+        Answer::Silent => put_text(out, at, b" silent"),
+        Answer::Begun => put_text(out, at, b" begun"),
+        Answer::Ended => put_text(out, at, b" ended"),
+        Answer::Refused(_) => put_text(out, at, b" refused"),
+        Answer::Reply(_) => put_text(out, at, b" reply"),
+        Answer::Waiting | Answer::More => at,
     }
 }
 
@@ -63,13 +52,11 @@ fn put_data(out: &mut [u8], at: usize, answer: Answer, reply: &[u8]) -> usize
     requires { (length reply.now ≡ 64) × (at + 129 ≤ length out.old) }
     ensures { PutFew 129 out.old at (data_of (answer_of answer) reply.now) result out.new }
 {
-    if let Answer::Refused(refusal) = answer {
-        return put_number(out, at, refusal.number());
+    match answer {
+        Answer::Refused(refusal) => put_number(out, at, refusal.number()),
+        Answer::Reply(length) => put_reply(out, at, length, reply),
+        _ => at,
     }
-    if let Answer::Reply(length) = answer {
-        return put_reply(out, at, length, reply);
-    }
-    at
 }
 
 // A number in decimal behind a space.
@@ -95,19 +82,9 @@ fn put_reply(out: &mut [u8], at: usize, count: usize, reply: &[u8]) -> usize
     ensures { PutFew 129 out.old at (0x20 ∷ hex_of (take count reply.now)) result out.new }
 {
     out[at] = b' ';
-    let n = at_most(reply, count);
+    let n = count.min(reply.len());
     digits::put_hex(out, at + 1, &reply[..n]);
     at + 1 + n + n
-}
-
-// A count of bytes, or how many there are where that is less.
-fn at_most(bytes: &[u8], count: usize) -> usize
-    ensures { (result ≤ length bytes.now) × (take result bytes.now ≡ take count bytes.now) }
-{
-    if bytes.len() < count {
-        return bytes.len();
-    }
-    count
 }
 
 fn put_text(out: &mut [u8], at: usize, text: &[u8]) -> usize

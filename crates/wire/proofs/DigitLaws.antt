@@ -5,11 +5,12 @@ use mathlib.Core.List.{List, [], ◌∷◌, ◌++◌, append-nil, append_assoc}
 use mathlib.Core.Option.{Option, none, some, map, none-ne-some}
 use mathlib.Core.Path.{◌≡◌, refl, sym, ap, ◌∙◌}
 use native.Mathlib.Nat.{not-suc-le-zero, suc-mul, mul-le-mul_right}
+use native.Mathlib.Numerals.{add-one}
 use native.Mathlib.Omega.{arith}
-use borrow.Author.Tests.{le-ltb, le-leb, lt-leb, ltb-true, ltb-false, eqb-true, eqb-false}
+use borrow.Author.Tests.{le-ltb, le-leb, lt-leb, eq-eqb, ltb-true, ltb-false, eqb-true, eqb-false}
 use lib.Dec.{ltb, leb, eqb}
-use lib.ListN.{length, get_or, take, drop, length-append, length-drop, drop_of_length-le, get_or-append}
-use lib.Seq.{paste, take-paste, drop-paste, drop-drop, drop-cons, take-add, take-length, append_snoc}
+use lib.ListN.{length, get_or, set, take, drop, replicate, length-append, length-drop, length-set, drop_of_length-le, get_or-append, take-append-drop}
+use lib.Seq.{paste, take-paste, drop-paste, drop-drop, drop-cons, drop-set-lt, take-add, take-length, take-suc-set, length-take-le, append_snoc}
 use Rattle.wire.specs.Digits.{
   Bytes,
   digit_of,
@@ -22,6 +23,7 @@ use Rattle.wire.specs.Digits.{
   cons,
   unhex,
   octets_in,
+  Exact,
   padded,
 }
 use Rattle.wire.proofs.Tests.{cond-by, and-false}
@@ -162,6 +164,10 @@ pub before-one_more : (p : List ℕ) (b : ℕ) (o : Option (List ℕ)) → befor
 before-one_more p b none = refl
 before-one_more p b (some s) = ap some (sym (append_snoc p b s))
 
+cons-none : (b : Option ℕ) → none ≡ cons b none
+cons-none none = refl
+cons-none (some b) = refl
+
 pub unhex-step : (t : List ℕ) (i : ℕ) → i + i + 1 < length t
     → unhex (drop (i + i) t) ≡ cons (two_at t (i + i)) (unhex (drop (i + 1 + (i + 1)) t))
 unfolding unhex two_at
@@ -181,6 +187,52 @@ unhex-end t p i h k =
     (λ q. let n = eqb-false (i + i) (length t) q in
     let l : i + i < length t = omega arith in
     let e : length t ≤ suc (i + i) = omega arith in rw (drop-cons t (i + i) 0 l, drop_of_length-le t e))
+
+-- the bytes that the first i pairs of digits give, zeros behind them
+pub record Taken (t bytes : List ℕ) (i : ℕ) : Type 0 where
+  pub sized : length bytes ≡ 16
+  pub rest : unhex t ≡ before (take i bytes) (unhex (drop (i + i) t))
+  pub zeros : drop i bytes ≡ drop i (replicate 16 0)
+
+pub none-taken : (t : List ℕ) → Taken t (replicate 16 0) 0
+none-taken t = record { sized = refl; rest = before-first (unhex t); zeros = refl }
+
+pub one_more-taken : (t bytes : List ℕ) (i b : ℕ) → Taken t bytes i → i + i + 1 < length t → length t ≤ 32 → some b ≡ two_at t (2 * i)
+    → Taken t (set bytes i b) (i + 1)
+one_more-taken t bytes i b p more few e =
+    let twice : 2 * i ≡ i + i = omega arith in
+    let told : some b ≡ two_at t (i + i) = rw twice at e in
+    let sized = p.sized in
+    let here : take (i + 1) (set bytes i b) ≡ take i bytes ++ (b ∷ []) = rw add-one (take-suc-set bytes i b (omega arith)) in
+    record {
+      sized = simp length-set sized;
+      rest = p.rest ∙ rw (unhex-step t i more, ← told, here) (before-one_more (take i bytes) b (unhex (drop (i + 1 + (i + 1)) t)));
+      zeros = drop-set-lt (i + 1) bytes i b (omega arith) ∙ (sym (drop-drop 1 i bytes) ∙ (ap (drop 1) p.zeros ∙ drop-drop 1 i (replicate 16 0)));
+    }
+
+pub bad-taken : (t bytes : List ℕ) (i : ℕ) → Taken t bytes i → i + i + 1 < length t → none ≡ two_at t (2 * i) → none ≡ unhex t
+bad-taken t bytes i p more e =
+    let twice : 2 * i ≡ i + i = omega arith in
+    let told : none ≡ two_at t (i + i) = rw twice at e in
+    rw (p.rest, unhex-step t i more, ← told)
+
+module _ (t bytes : List ℕ) (i : ℕ) (p : Taken t bytes i) where
+  pub taken-found : i + i ≡ length t → some (take i bytes) ≡ unhex t
+  taken-found whole = rw (p.rest, unhex-end t (take i bytes) i (omega arith) (omega arith), eq-eqb (i + i) (length t) whole)
+
+  pub taken-exact : i ≤ 16 → Exact (record { bytes = bytes; count = i })
+  unfolding padded
+  taken-exact few =
+      let size : length (take i bytes) ≡ i = length-take-le i bytes (omega (arith, p.sized)) in
+      let padding : bytes ≡ take i bytes ++ drop i (replicate 16 0) = sym (take-append-drop i bytes) ∙ ap (λ (s : List ℕ). take i bytes ++ s) p.zeros in
+      record { few = few; padding = rw size padding }
+
+-- a digit that is left over
+pub odd-unhex : (t : List ℕ) → length t % 2 ≡ 1 → none ≡ unhex t
+unfolding unhex
+odd-unhex [] h = absurd (omega arith)
+odd-unhex (a ∷ []) h = refl
+odd-unhex (a ∷ b ∷ t) h = rw (← odd-unhex t (omega arith)) (cons-none (join 16 (value_of a) (value_of b)))
 
 -- ---- digits written one after the other
 

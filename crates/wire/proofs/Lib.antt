@@ -1,7 +1,5 @@
 pub mod Tests
-pub mod Ways
 pub mod Tables
-pub mod CopyLaws
 pub mod DigitRange
 pub mod DigitLaws
 pub mod CaseLaws

@@ -8,7 +8,7 @@ use native.Mathlib.Omega.{arith}
 use native.Mathlib.Numerals.{add-one}
 use borrow.Author.Tests.{le-leb, leb-true, eq-eqb}
 use lib.Dec.{leb, eqb}
-use lib.ListN.{length, take, drop, set, get_or, length-append, length-drop, get_or-append}
+use lib.ListN.{length, take, drop, set, get_or, length-append, get_or-append}
 use lib.Seq.{paste, take_at, take-length, drop-append-add, drop-drop, set_at, drop-cons, append_snoc, get_or-append-add}
 use Rattle.wire.specs.Digits.{two_at, SameDigits}
 use Rattle.wire.specs.Packet.{soh, stx, etx, cr, zero_byte, xor_of, covered, packet_with, packet, over, size_from, size, check_code, packet_text, length_digits}
@@ -35,10 +35,6 @@ module _ (p o : List ℕ) (k : ℕ) (e : length p ≡ k) where
   pub over-take : take k (over p o) ≡ p
   unfolding over
   over-take = take_at p (drop (length p) o) k e
-
-  pub over-length : k ≤ length o → length (over p o) ≡ length o
-  unfolding over
-  over-length h = rw (length-append, length-drop) (omega arith)
 
 -- ---- a packet's parts
 

@@ -1,9 +1,7 @@
 -- Numbers on the wire (docs/RULES.md, 'Packets', PK3): hexadecimal digits, high digit first; written in capitals, and received in either case.
-use Rattle.std.specs.Prelude.{cond, ◌&&◌, List, [], ◌∷◌, ◌++◌, ◌⊎◌, ◌≡◌, ℕ, ◌+◌, ◌-◌, ◌*◌, ◌/◌, ◌%◌, ◌≤◌, ◌<◌, ltb, leb, length, get_or, drop, replicate}
+use Rattle.std.specs.Prelude.{cond, ◌&&◌, List, [], ◌∷◌, ◌++◌, ◌⊎◌, ◌≡◌, ℕ, ◌+◌, ◌-◌, ◌*◌, ◌/◌, ◌%◌, ◌≤◌, ◌<◌, ltb, leb, length, get_or, take, drop, replicate}
 use Rattle.std.proofs.Math.Option.{Option, none, some, map}
-use Rattle.wire.specs.declared.digits.Octet.{Octet}
-use Rattle.wire.specs.declared.digits.Word.{Word}
-use Rattle.wire.specs.declared.digits.Count.{Count}
+use Rattle.std.specs.Prelude as code
 use Rattle.wire.specs.declared.digits.Octets.{Octets}
 
 -- each element of a list is a byte
@@ -30,6 +28,11 @@ hex_of [] = []
 hex_of (b ∷ bs) = digit_of (b / 16) ∷ digit_of (b % 16) ∷ hex_of bs
 
 -- ---- as received
+
+-- what is read on from a first part; none where that is none. The library's own is not seen by the attribute that opens a reader's definition.
+abbrev pub bind : {A B : Type 0} → Option A → (A → Option B) → Option B
+bind none f = none
+bind (some x) f = f x
 
 -- the value of a digit; none where the byte is no digit
 unfoldable pub value_of : ℕ → Option ℕ
@@ -88,27 +91,24 @@ SameDigits (a ∷ s) (b ∷ t) = SameDigit a b × SameDigits s t
 
 -- ---- what the code's answers mean
 
-abbrev pub octet : Octet → Option ℕ
-octet (Octet.Value n) = some n
-octet Octet.Bad = none
-
-abbrev pub word : Word → Option ℕ
-word (Word.Value n) = some n
-word Word.Bad = none
-
-abbrev pub counted : Count → Option ℕ
-counted (Count.Value n) = some n
-counted Count.Bad = none
+-- what is found, if anything
+abbrev pub found : {A : Type 0} → code.Option A → Option A
+found (code.Some x) = some x
+found code.None = none
 
 -- 16 bytes: those of a serial number, a model or a tag, and 00h behind them
 unfoldable pub padded : List ℕ → List ℕ
 padded s = s ++ drop (length s) (replicate 16 0)
 
-abbrev pub bytes_found : Option (List ℕ) → List ℕ
-bytes_found (some s) = s
-bytes_found none = []
+-- bytes in an array of 16, zeros behind them, with their count
+abbrev pub octets : List ℕ → Octets
+octets s = record { bytes = padded s; count = length s }
 
--- how many bytes are found, and the bytes; zeros alone where none are
-pub record FindsOctets (o : Octets) (found : Option (List ℕ)) : Type 0 where
-  pub count : counted o.count ≡ map length found
-  pub bytes : o.bytes ≡ padded (bytes_found found)
+-- the bytes that are counted
+abbrev pub octets_of : Octets → List ℕ
+octets_of o = take o.count o.bytes
+
+-- no more bytes are counted than there are, and zeros stand behind them
+pub record Exact (o : Octets) : Type 0 where
+  pub few : o.count ≤ 16
+  pub padding : o.bytes ≡ padded (octets_of o)

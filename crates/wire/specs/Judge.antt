@@ -1,10 +1,10 @@
 -- How a packet is judged (docs/RULES.md, 'Receiver', RX2 and RX3): its header in the order 2, 3, 4, the whole in the order 5, 6, 7.
-use Rattle.std.specs.Prelude.{Bool, false, cond, not, ◌&&◌, ◌||◌, List, ℕ, ◌-◌, leb, eqb, get_or}
+use Rattle.std.specs.Prelude.{Result, Ok, Err, Bool, false, cond, not, ◌&&◌, ◌||◌, List, ℕ, ◌-◌, leb, eqb, get_or}
 use Rattle.std.proofs.Math.Option.{Option, none, some}
 use Rattle.wire.specs.Digits.{two_at}
 use Rattle.wire.specs.Packet.{size, check_code, zero_byte, stx, etx, cr, type_a, type_c, type_e, least_l, most_l}
 use Rattle.wire.specs.Refusal.{number_of}
-use Rattle.wire.specs.declared.packet.Judged.{Judged}
+use Rattle.wire.specs.declared.refusal.Refusal.{Refusal}
 
 -- good, or refused with a number
 pub data Verdict : Type 0 where
@@ -53,6 +53,6 @@ packet_verdict p =
 
 -- ---- what the code's answer means
 
-abbrev pub verdict : Judged → Verdict
-verdict Judged.Good = good
-verdict (Judged.Refused r) = refused (number_of r)
+abbrev pub verdict : Result Unit Refusal → Verdict
+verdict (Ok u) = good
+verdict (Err r) = refused (number_of r)

@@ -1,114 +1,88 @@
 // Hexadecimal digits, written and read.
-ghost use Rattle.std.proofs.Math.Option.{none};
-ghost use Rattle.std.specs.Prelude.{◌≡◌, ◌+◌, ◌<◌, ◌≤◌, length};
+ghost use Rattle.std.proofs.Math.Option.{map};
+ghost use Rattle.std.specs.Prelude.{◌≡◌, ◌+◌, ◌<◌, ◌≤◌, length, IfSome};
 ghost use Rattle.std.proofs.Math.Seq.{paste};
-ghost use Rattle.wire.specs.Digits.{digit_of, two, four, hex_of, value_of, two_at, four_at, octets_in, octet, word, FindsOctets};
+ghost use Rattle.wire.specs.Digits.{digit_of, two, four, hex_of, value_of, two_at, four_at, octets_in, found, octets, octets_of, Exact};
 
-// What one or two digits give.
-#[derive(Clone, Copy)]
-pub enum Octet {
-    Value(u8),
-    Bad,
-}
-
-// What four digits give.
-#[derive(Clone, Copy)]
-pub enum Word {
-    Value(u16),
-    Bad,
-}
-
-// How many bytes digits give.
-#[derive(Clone, Copy)]
-pub enum Count {
-    Value(u8),
-    Bad,
-}
-
-// Up to 16 bytes from two digits each, with zeros behind them. The array stands beside the count, since no enum holds one.
+// Up to 16 bytes: the first of the array, as many as count says. There is no heap, so an array has its count beside it.
 #[derive(Clone, Copy)]
 pub struct Octets {
-    pub count: Count,
     pub bytes: [u8; 16],
+    pub count: u8,
+}
+
+impl Octets {
+    // At most 16 bytes.
+    #[tactic(auto, unfolding(crate::specs::Digits::padded))]
+    pub fn of(t: &[u8]) -> Self
+        requires { length t.now ≤ 16 }
+        ensures { result ≡ octets t.now }
+    {
+        let mut bytes = [0u8; 16];
+        bytes[..t.len()].copy_from_slice(t);
+        Octets {
+            bytes,
+            count: t.len() as u8,
+        }
+    }
 }
 
 // The value of a digit, in either case.
-pub fn value_of(b: u8) -> Octet
-    ensures { octet result ≡ value_of b }
+pub fn value_of(b: u8) -> Option<u8>
+    ensures { found result ≡ value_of b }
 {
     if (0x30 <= b) & (b <= 0x39) {
-        return Octet::Value(b - 0x30);
+        return Some(b - 0x30);
     }
     if (0x41 <= b) & (b <= 0x46) {
-        return Octet::Value(b - 0x37);
+        return Some(b - 0x37);
     }
     if (0x61 <= b) & (b <= 0x66) {
-        return Octet::Value(b - 0x57);
+        return Some(b - 0x57);
     }
-    Octet::Bad
+    None
 }
 
 // The number that the two digits at a place give.
-pub fn two_at(s: &[u8], at: usize) -> Octet
+pub fn two_at(s: &[u8], at: usize) -> Option<u8>
     requires { at + 1 < length s.now }
-    ensures { octet result ≡ two_at s.now at }
+    ensures { found result ≡ two_at s.now at }
 {
-    let Octet::Value(high) = value_of(s[at]) else {
-        return Octet::Bad;
-    };
-    let Octet::Value(low) = value_of(s[at + 1]) else {
-        return Octet::Bad;
-    };
-    Octet::Value(high * 16 + low)
+    let high = value_of(s[at])?;
+    let low = value_of(s[at + 1])?;
+    Some(high * 16 + low)
 }
 
 // The number that the four digits at a place give.
-pub fn four_at(s: &[u8], at: usize) -> Word
+pub fn four_at(s: &[u8], at: usize) -> Option<u16>
     requires { at + 3 < length s.now }
-    ensures { word result ≡ four_at s.now at }
+    ensures { found result ≡ four_at s.now at }
 {
-    let Octet::Value(high) = two_at(s, at) else {
-        return Word::Bad;
-    };
-    let Octet::Value(low) = two_at(s, at + 2) else {
-        return Word::Bad;
-    };
-    Word::Value(high as u16 * 256 + low as u16)
+    let high = two_at(s, at)?;
+    let low = two_at(s, at + 2)?;
+    Some(high as u16 * 256 + low as u16)
 }
 
 // The bytes that two digits each give, at most 16 of them.
-pub fn octets_in(t: &[u8]) -> Octets
-    ensures { FindsOctets result (octets_in t.now) }
+pub fn octets_in(t: &[u8]) -> Option<Octets>
+    ensures bytes { map octets_of (found result) ≡ octets_in t.now }
+    ensures exact { IfSome result Exact }
 {
-    let mut bytes = [0u8; 16];
     let n = t.len();
     if 32 < n {
-        return no_octets();
+        return None;
     }
-    let mut i: usize = 0;
-    while i + i + 1 < n {
-        let Octet::Value(b) = two_at(t, i + i) else {
-            return no_octets();
-        };
-        bytes[i] = b;
-        i += 1;
+    if n % 2 == 1 {
+        return None;
     }
-    if i + i != n {
-        return no_octets();
+    let mut bytes = [0u8; 16];
+    for i in 0..n / 2 {
+        bytes[i] = two_at(t, 2 * i)?;
     }
-    Octets {
-        count: Count::Value(i as u8),
+    Some(Octets {
         bytes,
-    }
-}
-
-fn no_octets() -> Octets
-    ensures { FindsOctets result none }
-{
-    Octets {
-        count: Count::Bad,
-        bytes: [0u8; 16],
-    }
+        count: (n / 2) as u8,
+    })
 }
 
 // The digit of a number below 16.
@@ -124,11 +98,7 @@ pub fn put_bytes(out: &mut [u8], at: usize, t: &[u8])
     requires { at + length t.now ≤ length out.old }
     ensures { out.new ≡ paste out.old at t.now (length t.now) }
 {
-    let mut i: usize = 0;
-    while i < t.len() {
-        out[at + i] = t[i];
-        i += 1;
-    }
+    out[at..at + t.len()].copy_from_slice(t);
 }
 
 // Writes a number as two digits from a place on.
@@ -154,9 +124,7 @@ pub fn put_hex(out: &mut [u8], at: usize, s: &[u8])
     requires { at + (length s.now + length s.now) ≤ length out.old }
     ensures { out.new ≡ paste out.old at (hex_of s.now) (length (hex_of s.now)) }
 {
-    let mut i: usize = 0;
-    while i < s.len() {
-        put_two(out, at + i + i, s[i]);
-        i += 1;
+    for (i, b) in s.iter().enumerate() {
+        put_two(out, at + 2 * i, *b);
     }
 }

@@ -5,7 +5,6 @@ ghost use Rattle.wire.specs.Judge.{verdict, is_request_type, is_length, header_v
 ghost use Rattle.wire.specs.Inner.{Whole, Fits, header};
 
 use crate::digits;
-use crate::digits::Octet;
 use crate::refusal::Refusal;
 
 pub const SOH: u8 = 0x01;
@@ -58,13 +57,6 @@ pub const MOST_PACKET: usize = 73;
 // The least bytes of a lent buffer for a packet.
 pub const LEAST_BUFFER: usize = 64;
 
-// Good, or why not.
-#[derive(Clone, Copy)]
-pub enum Judged {
-    Good,
-    Refused(Refusal),
-}
-
 // Writes a whole packet at the start of a buffer; its length.
 pub fn put_packet(out: &mut [u8], dest: u8, source: u8, kind: u8, text: &[u8]) -> usize
     requires { Fits text.now out.old }
@@ -91,19 +83,20 @@ fn put_header(out: &mut [u8], dest: u8, source: u8, kind: u8, n: usize)
     out[7] = STX;
 }
 
-// How many bytes the packet has whose first seven or more are held.
+// How many bytes the packet has whose first seven or more are held; 0 for bad length digits, as in the definition `size`, from which every place in a
+// packet is counted.
 pub fn size(held: &[u8]) -> usize
     requires { 7 ≤ length held.now }
     ensures { result ≡ size held.now }
 {
-    let Octet::Value(l) = digits::two_at(held, 5) else {
-        return 0;
-    };
-    l as usize + BESIDES
+    match digits::two_at(held, 5) {
+        Some(l) => l as usize + BESIDES,
+        None => 0,
+    }
 }
 
 // Refusals 2, 3 and 4 of a header.
-pub fn judge_header(held: &[u8]) -> Judged
+pub fn judge_header(held: &[u8]) -> Result<(), Refusal>
     requires { 7 ≤ length held.now }
     ensures { verdict result ≡ header_verdict held.now }
 {
@@ -112,22 +105,22 @@ pub fn judge_header(held: &[u8]) -> Judged
     let typed = is_request_type(held[4]);
     let sized = is_length(held);
     if !reserved {
-        return Judged::Refused(Refusal::Header);
+        return Err(Refusal::Header);
     }
     if !from_station {
-        return Judged::Refused(Refusal::Header);
+        return Err(Refusal::Header);
     }
     if !typed {
-        return Judged::Refused(Refusal::MessageType);
+        return Err(Refusal::MessageType);
     }
     if !sized {
-        return Judged::Refused(Refusal::Length);
+        return Err(Refusal::Length);
     }
-    Judged::Good
+    Ok(())
 }
 
 // Refusals 5, 6 and 7 of a packet that has all its bytes.
-pub fn judge_packet(p: &[u8]) -> Judged
+pub fn judge_packet(p: &[u8]) -> Result<(), Refusal>
     requires { Whole p.now }
     ensures { verdict result ≡ packet_verdict p.now }
 {
@@ -135,15 +128,15 @@ pub fn judge_packet(p: &[u8]) -> Judged
     let checked = has_check_code(p);
     let message = is_message(p);
     if !returned {
-        return Judged::Refused(Refusal::NoReturn);
+        return Err(Refusal::NoReturn);
     }
     if !checked {
-        return Judged::Refused(Refusal::CheckCode);
+        return Err(Refusal::CheckCode);
     }
     if !message {
-        return Judged::Refused(Refusal::Message);
+        return Err(Refusal::Message);
     }
-    Judged::Good
+    Ok(())
 }
 
 // The last byte is CR.
@@ -184,26 +177,17 @@ pub fn is_length(held: &[u8]) -> bool
     requires { 7 ≤ length held.now }
     ensures { result ≡ is_length held.now }
 {
-    let Octet::Value(l) = digits::two_at(held, 5) else {
-        return false;
-    };
-    if l < LEAST_L {
-        return false;
+    match digits::two_at(held, 5) {
+        Some(l) => (LEAST_L <= l) & (l <= MOST_L),
+        None => false,
     }
-    l <= MOST_L
 }
 
 // The type is that of a request: A, C or E.
 fn is_request_type(kind: u8) -> bool
     ensures { result ≡ is_request_type kind }
 {
-    if kind == TYPE_A {
-        return true;
-    }
-    if kind == TYPE_C {
-        return true;
-    }
-    kind == TYPE_E
+    matches!(kind, TYPE_A | TYPE_C | TYPE_E)
 }
 
 // The exclusive or of all bytes.
@@ -211,10 +195,8 @@ fn xor_of(s: &[u8]) -> u8
     ensures { result ≡ xor_of s.now }
 {
     let mut x: u8 = 0;
-    let mut i: usize = 0;
-    while i < s.len() {
-        x = x ^ s[i];
-        i += 1;
+    for b in s {
+        x ^= *b;
     }
     x
 }

@@ -1,16 +1,9 @@
--- The first event is played, and then the rest: where that ends the list, where it goes on, and what the rest leaves.
-use Rattle.std.proofs.Common.{arith}
-use Rattle.play.proofs.RunLaws.{ends-first, leaves-two, leaves-part, leaves-room, goes_on_lem, plays-rest, rest-fewer, rest-kept}
+-- The first event is played, and then the rest, which is shorter.
+use Rattle.play.proofs.RunLaws.{plays-rest, rest-fewer, rest-kept}
 use Rattle.play.proofs.+play_play_rest.Goals as goal
 
-pub play-returns-then-not-first : goal.play-returns-then-not-first
-play-returns-then-not-first t c = search ends-first
-
-pub play-play_rest-requires : goal.play-play_rest-requires
-play-play_rest-requires t c = (omega arith, record { two = search leaves-two; part = search leaves-part; room = search leaves-room })
-
-pub play-returns : goal.play-returns
-play-returns t c = search goes_on_lem
+pub play-returns-in-Some : goal.play-returns-in-Some
+play-returns-in-Some t c = c.in-Some.ensures.goes _ _ _ c.play_rest.ensures
 
 pub play_rest-play-requires : goal.play_rest-play-requires
 play_rest-play-requires t c = search rest-fewer

@@ -2,7 +2,6 @@
 use Prim.Native.Nat.{ℕ, ◌+◌, ◌≤◌, ◌<◌}
 use mathlib.Core.List.{List, [], ◌∷◌}
 use mathlib.Core.Path.{◌≡◌, refl, sym, ◌∙◌}
-use mir.Facts.{Fits-8_64}
 use native.Mathlib.Omega.{arith}
 use native.Mathlib.Numerals.{add-one}
 use lib.ListN.{length, get_or, set, length-set}
@@ -46,9 +45,6 @@ bounds-log-1 c = simp length-set (omega arith)
 
 pub loop-i-init : goal.loop-i-init
 loop-i-init c = search two-written
-
-pub overflow_cast-log : goal.overflow_cast-log
-overflow_cast-log c = search (Fits-8_64, c.shared_slice_known-1.given)
 
 pub loop-i-preserved : goal.loop-i-preserved
 loop-i-preserved c = search one_more

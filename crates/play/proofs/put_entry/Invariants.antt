@@ -1,5 +1,5 @@
 -- After i turns the log begins with the two numbers and the store's first i bytes, and each turn writes one more.
-use Prim.Native.Nat.{ℕ, ◌+◌, ◌-◌, ◌≤◌}
+use Prim.Native.Nat.{ℕ, ◌+◌, ◌≤◌}
 use mathlib.Core.List.{List, ◌∷◌}
 use mathlib.Core.Path.{◌≡◌}
 use lib.ListN.{length, take}
@@ -18,6 +18,3 @@ pub record Writes (kind number : ℕ) (store log₀ log : List ℕ) (i : ℕ) : 
 
 abbrev pub invariant-loop-i : goal.invariant-loop-i
 invariant-loop-i l = Writes l.kind l.number l.store l.initial.log l.log l.i
-
-abbrev pub decreases-loop-i : goal.decreases-loop-i
-decreases-loop-i l = length l.store - l.i

@@ -1,15 +1,12 @@
--- The tests tell which event a number is, and the call of each shows what its contract says.
-use Rattle.play.proofs.Laws.{byte-turns, gap-turns, step-turns, cut-turns}
+-- The matched event has its own call.
+use Rattle.play.proofs.Laws.{byte-turns, gap-turns, step-turns}
 use Rattle.play.proofs.turn_of.Goals as goal
 
-pub returns-then-event-lt256 : goal.returns-then-event-lt256
-returns-then-event-lt256 c = search byte-turns
+pub returns-in-Byte : goal.returns-in-Byte
+returns-in-Byte c = search byte-turns
 
-pub returns-then-event-eq256 : goal.returns-then-event-eq256
-returns-then-event-eq256 c = search gap-turns
+pub returns-in-Gap : goal.returns-in-Gap
+returns-in-Gap c = search gap-turns
 
-pub returns-then-event-eq257 : goal.returns-then-event-eq257
-returns-then-event-eq257 c = search step-turns
-
-pub returns : goal.returns
-returns c = search cut-turns
+pub returns-in-Step : goal.returns-in-Step
+returns-in-Step c = search step-turns

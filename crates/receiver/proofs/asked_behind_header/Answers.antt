@@ -11,18 +11,18 @@ use lib.ListN.{length}
 use lib.Seq.{length-take-le}
 use Rattle.wire.specs.Packet.{size}
 use Rattle.wire.specs.Judge.{verdict, good, header_verdict}
-use Rattle.wire.specs.declared.packet.Judged.{Judged}
+use Rattle.std.specs.Prelude.{Result, Ok, Err}
 use Rattle.wire.specs.declared.refusal.Refusal.{Refusal}
 use Rattle.wire.proofs.PacketLaws.{header-size}
 use Rattle.receiver.specs.Inner.{checkpoint, asked_behind}
 use Rattle.receiver.proofs.asked_behind_header.Goals as goal
 
-module _ (h : List ℕ) (v : Judged) (told : verdict v ≡ header_verdict h) where
-  bad_header : (r : Refusal) → v ≡ Judged.Refused r → 0 ≡ asked_behind h
+module _ (h : List ℕ) (v : Result Unit Refusal) (told : verdict v ≡ header_verdict h) where
+  bad_header : (r : Refusal) → v ≡ Err r → 0 ≡ asked_behind h
   unfolding asked_behind
   bad_header r e = rw (← told, e)
 
-  module _ (e : v ≡ Judged.Good) where
+  module _ (u : Unit) (e : v ≡ Ok u) where
     is_good_lem : header_verdict h ≡ good
     is_good_lem = rw (← told, e)
 

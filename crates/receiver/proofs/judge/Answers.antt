@@ -10,7 +10,8 @@ use lib.Seq.{length-take-le}
 use Rattle.wire.specs.Packet.{size}
 use Rattle.wire.specs.Judge.{verdict, header_verdict, packet_verdict}
 use Rattle.wire.specs.Inner.{Whole}
-use Rattle.wire.specs.declared.packet.Judged.{Judged}
+use Rattle.std.specs.Prelude.{Result, Ok, Err}
+use Rattle.wire.specs.declared.refusal.Refusal.{Refusal}
 use Rattle.receiver.specs.Receive.{Receipt, waiting, keeps, delivers, judged, grown}
 use Rattle.receiver.specs.View.{reception_in, WholeOf}
 use Rattle.receiver.specs.Inner.{or_refused, GrownBeginning}
@@ -18,27 +19,27 @@ use Rattle.receiver.specs.declared.Reception.{Reception}
 use Rattle.receiver.proofs.judge.Goals as goal
 
 -- a verdict that lets an answer pass or refuses it
-passed : (a : List ℕ) (v : Judged) (x : Reception) (to : Receipt) → reception_in x a ≡ to.answer
+passed : (a : List ℕ) (v : Result Unit Refusal) (x : Reception) (to : Receipt) → reception_in x a ≡ to.answer
     → reception_in (or_refused v x) a ≡ (judged (verdict v) to).answer
-passed a Judged.Good x to e = e
-passed a (Judged.Refused r) x to e = refl
+passed a (Ok u) x to e = e
+passed a (Err r) x to e = refl
 
 -- what is told of a count
-counted : (n : ℕ) (r : Reception) (v : Judged) (x : Reception) → r ≡ or_refused v x → WholeOf x n → WholeOf r n
-counted n r Judged.Good x e w = rw e w
-counted n r (Judged.Refused k) x e w = rw e tt
+counted : (n : ℕ) (r : Reception) (v : Result Unit Refusal) (x : Reception) → r ≡ or_refused v x → WholeOf x n → WholeOf r n
+counted n r (Ok u) x e w = rw e w
+counted n r (Err k) x e w = rw e tt
 
-header-counted : (n : ℕ) (r : Reception) (v : Judged) → r ≡ or_refused v Reception.Waiting → WholeOf r n
+header-counted : (n : ℕ) (r : Reception) (v : Result Unit Refusal) → r ≡ or_refused v Reception.Waiting → WholeOf r n
 header-counted n r v e = counted n r v Reception.Waiting e tt
 
-packet-counted : (n : ℕ) (r : Reception) (v : Judged) → r ≡ or_refused v (Reception.Whole n) → WholeOf r n
+packet-counted : (n : ℕ) (r : Reception) (v : Result Unit Refusal) → r ≡ or_refused v (Reception.Whole n) → WholeOf r n
 packet-counted n r v e = counted n r v (Reception.Whole n) e refl
 
 module _ (n : ℕ) (a : List ℕ) (fits : n ≤ length a) where
   so_many : length (take n a) ≡ n
   so_many = length-take-le n a fits
 
-  at-header : n ≡ 7 → (r : Reception) (v : Judged) → verdict v ≡ header_verdict (take n a) → r ≡ or_refused v Reception.Waiting
+  at-header : n ≡ 7 → (r : Reception) (v : Result Unit Refusal) → verdict v ≡ header_verdict (take n a) → r ≡ or_refused v Reception.Waiting
       → reception_in r a ≡ (grown (take n a)).answer
   unfolding grown
   at-header e r v says unless =
@@ -50,7 +51,7 @@ module _ (n : ℕ) (a : List ℕ) (fits : n ≤ length a) where
     in_packet few = rw (so_many, le-ltb n 7 seven, ne_eqb n 7 more, ← told, lt-ltb n k few)
 
     module _ (all : k ≤ n) where
-      at-end : (r : Reception) (v : Judged) → verdict v ≡ packet_verdict (take n a) → r ≡ or_refused v (Reception.Whole n)
+      at-end : (r : Reception) (v : Result Unit Refusal) → verdict v ≡ packet_verdict (take n a) → r ≡ or_refused v (Reception.Whole n)
           → reception_in r a ≡ (grown (take n a)).answer
       unfolding grown
       at-end r v says unless =

@@ -20,14 +20,14 @@ module _ (s held : List ℕ) (asked packets refused i : ℕ) (h : Held s held as
       let accepted = byte-accepted held (get_or s i 0) h.asking.proper in
       record { asking = asks; played = played-on s held packets refused i h.played n g p r (rw accepted c) }
 
-pub loop-i-init : goal.loop-i-init
-loop-i-init c = search nothing_held
+pub loop-b-init : goal.loop-b-init
+loop-b-init c = search nothing_held
 
 pub tallied-tally-requires : goal.tallied-tally-requires
 tallied-tally-requires c = record { asking = search; room = (omega arith, omega arith) }
 
-pub loop-i-preserved : goal.loop-i-preserved
-loop-i-preserved c = search tallied-on
+pub loop-b-preserved : goal.loop-b-preserved
+loop-b-preserved c = search tallied-on
 
 pub returns : goal.returns
 returns c = search (wholes-counted, refusals-counted)

@@ -2,8 +2,8 @@
 use Rattle.transcript.proofs.FeedLaws.{lines-counted, lines-within}
 use Rattle.replay.proofs.give.Goals as goal
 
-pub overflow_add-length : goal.overflow_add-length
-overflow_add-length c = search lines-counted
+pub overflow_add-result : goal.overflow_add-result
+overflow_add-result c = search lines-counted
 
 pub returns : goal.returns
 returns c = search lines-within

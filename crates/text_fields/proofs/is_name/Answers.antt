@@ -1,24 +1,29 @@
--- The lengths first, then the bytes, in the code as in the definition; a law for each return.
-use mathlib.Core.Bool.{Bool, false}
-use mathlib.Core.List.{List}
-use mathlib.Core.Path.{◌≡◌}
-use Prim.Native.Nat.{ℕ}
-use borrow.Author.Tests.{eq-eqb, ne_eqb}
+-- Both are equal where they are as long as one another and one begins with the other.
+use mathlib.Core.Bool.{Bool, true, false, ◌&&◌}
+use mathlib.Core.List.{List, [], ◌∷◌}
+use mathlib.Core.Path.{◌≡◌, refl, ◌∙◌}
+use Prim.Native.Nat.{ℕ, suc}
+use Prim.Native.Nat.compare
+use native.Mathlib.Omega.{arith}
+use borrow.Author.Tests.{ne_eqb}
+use lib.Dec.{eqb}
 use lib.ListN.{length}
-use Rattle.messages.specs.Read.{is_name, begins_with}
+use lib.Pointwise.{pointwise}
+use Rattle.messages.specs.Read.{begins_with, is_name}
 use Rattle.text_fields.proofs.is_name.Goals as goal
 
-module _ (name t : List ℕ) where
-  other_length : (length t ≡ length name → ⊥) → false ≡ is_name name t
-  unfolding is_name
-  other_length e = rw (ne_eqb _ _ e)
+swapped : (a b c : Bool) → (a && (b && c)) ≡ (b && (a && c))
+swapped true b c = refl
+swapped false true c = refl
+swapped false false c = refl
 
-  same_length : length t ≡ length name → (r : Bool) → r ≡ begins_with name t → r ≡ is_name name t
-  unfolding is_name
-  same_length e r told = rw (eq-eqb _ _ e) told
-
-pub returns-then-text-name : goal.returns-then-text-name
-returns-then-text-name c = search other_length
+by_bytes : (name t : List ℕ) → pointwise eqb name t ≡ (eqb (length t) (length name) && begins_with name t)
+unfolding begins_with
+by_bytes [] [] = refl
+by_bytes [] (b ∷ t) = rw (ne_eqb (suc (length t)) 0 (λ e. omega arith))
+by_bytes (a ∷ name) [] = rw (ne_eqb 0 (suc (length name)) (λ e. omega arith))
+by_bytes (a ∷ name) (b ∷ t) = rw (by_bytes name t, compare.suc-suc (length t) (length name)) (swapped (eqb a b) (eqb (length t) (length name)) (begins_with name t))
 
 pub returns : goal.returns
-returns c = search same_length
+unfolding is_name
+returns c = c.eq.ensures ∙ by_bytes c.args.name.now c.args.text.now

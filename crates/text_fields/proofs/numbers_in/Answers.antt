@@ -1,27 +1,27 @@
--- The length first; in 32 digits what `octets_in` finds is what the definition takes.
-use mathlib.Core.List.{List}
-use mathlib.Core.Logic.{◌≢◌}
-use mathlib.Core.Path.{◌≡◌, refl}
+-- 32 digits give sixteen bytes, behind which the array has no room for a zero.
+use mathlib.Core.List.{List, append-nil}
+use mathlib.Core.Option.{some}
+use mathlib.Core.Path.{◌≡◌, sym}
 use Prim.Native.Nat.{ℕ}
-use borrow.Author.Tests.{eq-eqb, ne_eqb}
-use lib.ListN.{length, replicate}
-use Rattle.wire.specs.Digits.{octets_in, padded, FindsOctets}
-use Rattle.wire.specs.declared.digits.Count.{Count}
+use native.Mathlib.Omega.{arith}
+use borrow.Author.Tests.{eq-eqb}
+use lib.ListN.{length}
+use Rattle.wire.specs.Digits.{octets_of, octets_in, padded, Exact}
 use Rattle.wire.specs.declared.digits.Octets.{Octets}
+use Rattle.wire.proofs.DigitLaws.{bytes-length}
 use Rattle.messages.specs.Read.{numbers_in}
 use Rattle.text_fields.proofs.numbers_in.Goals as goal
 
-module _ (t : List ℕ) where
-  other_length : length t ≢ 32 → FindsOctets (record { count = Count.Bad; bytes = replicate 16 0 }) (numbers_in t)
-  unfolding numbers_in padded
-  other_length h = rw (ne_eqb (length t) 32 h) (record { count = refl; bytes = refl })
+padded_sixteen : (s : List ℕ) → length s ≡ 16 → padded s ≡ s
+unfolding padded
+padded_sixteen s e = rw (e, append-nil)
 
-  of_length : length t ≡ 32 → (r : Octets) → FindsOctets r (octets_in t) → FindsOctets r (numbers_in t)
-  unfolding numbers_in
-  of_length e r told = rw (eq-eqb (length t) 32 e) told
-
-pub returns-then-text-ne32 : goal.returns-then-text-ne32
-returns-then-text-ne32 c = search other_length
+sixteen : (t : List ℕ) (o : Octets) → length t ≡ 32 → some (octets_of o) ≡ octets_in t → Exact o → some o.bytes ≡ octets_in t
+sixteen t o few e exact =
+    let size : length (octets_of o) ≡ 16 = omega (arith, bytes-length t (sym e)) in
+    rw (exact.padding, padded_sixteen (octets_of o) size) e
 
 pub returns : goal.returns
-returns c = search of_length
+unfolding numbers_in
+returns c = rw (eq-eqb _ 32 c.if-text-ne32.false)
+    (sixteen c.args.text.now c.in_ok-numbers.numbers c.if-text-ne32.false c.in_ok-numbers.ensures.bytes c.in_ok-numbers.ensures.exact)

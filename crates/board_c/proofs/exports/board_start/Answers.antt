@@ -2,59 +2,66 @@
 use Prim.Native.Nat.{ℕ}
 use mathlib.Core.List.{List}
 use mathlib.Core.Option.{some-injective, none-ne-some, some-ne-none}
-use mathlib.Core.Path.{◌≡◌, refl, sym, ap, ◌∙◌}
+use mathlib.Core.Path.{◌≡◌, refl, sym, ap, ◌∙◌, subst}
 use lib.ListN.{length}
 use borrow.Author.Tests.{eq-eqb, ne_eqb}
+use Rattle.std.specs.Prelude.{Result, Ok, Err}
 use Rattle.wire.specs.Refusal.{number_of}
 use Rattle.wire.specs.declared.refusal.Refusal.{Refusal}
 use Rattle.calls.specs.Board as calls
 use Rattle.packets.specs.Packets.{BoardState}
-use Rattle.board.specs.View.{state_of, started_with, start_refusal_in, start_refusal_of}
-use Rattle.board.specs.declared.board.Started.{Started}
-use Rattle.board.specs.declared.board.StartAnswer.{StartAnswer}
+use Rattle.board.specs.View.{state_of, start_refusal_in, start_refusal_of}
 use Rattle.board.specs.declared.board.Board.{Board}
 use Rattle.board.specs.Values.{Starts as StartsBoard}
 use Rattle.board_c.specs.State.{state_bytes, state_in}
 use Rattle.board_c.specs.Exports.{start_in, Starts}
 use Rattle.board_c.proofs.exports.board_start.Goals as goal
 
-refused-starts : (x : calls.Started BoardState) (w : StartAnswer) (r : Refusal) (n : ℕ) (s m : List ℕ) → w ≡ StartAnswer.Refused r
+-- a state of another size: the start's own refusal, or 12
+refused_first : (x : calls.Started BoardState) (w : Result (Unit {0}) Refusal) (r : Refusal) (n : ℕ) (s m : List ℕ) → w ≡ Err r
     → start_refusal_of w ≡ start_refusal_in x → n ≡ number_of r → Starts (start_in (length s) x) n s s m m
 unfolding start_in
-refused-starts (calls.board y es) w r n s m q e k = absurd (some-ne-none _ (sym (ap start_refusal_of q) ∙ e))
-refused-starts (calls.start_refused j) w r n s m q e k =
+refused_first (calls.board y es) w r n s m q e k = absurd (some-ne-none _ (sym (ap start_refusal_of q) ∙ e))
+refused_first (calls.start_refused j) w r n s m q e k =
     record { result = k ∙ some-injective _ _ (sym (ap start_refusal_of q) ∙ e); state = tt; bytes = refl; stored = refl }
 
-another_size : (x : calls.Started BoardState) (w : StartAnswer) (s m : List ℕ) → w ≡ StartAnswer.Ready → start_refusal_of w ≡ start_refusal_in x
-    → (length s ≡ 111 → ⊥) → Starts (start_in (length s) x) 12 s s m m
+another_size : (x : calls.Started BoardState) (w : Result (Unit {0}) Refusal) (u : Unit {0}) (n : ℕ) (s m : List ℕ) → w ≡ Ok u
+    → start_refusal_of w ≡ start_refusal_in x → (length s ≡ 111 → ⊥) → n ≡ number_of Refusal.Unsound → Starts (start_in (length s) x) n s s m m
 unfolding start_in
-another_size (calls.board y es) w s m q e n = rw (ne_eqb (length s) 111 n) (record { result = refl; state = tt; bytes = refl; stored = refl })
-another_size (calls.start_refused j) w s m q e n = absurd (none-ne-some _ (sym (ap start_refusal_of q) ∙ e))
+another_size (calls.board y es) w u n s m q e f k = rw (ne_eqb (length s) 111 f) (record { result = k; state = tt; bytes = refl; stored = refl })
+another_size (calls.start_refused j) w u n s m q e f k = absurd (none-ne-some _ (sym (ap start_refusal_of q) ∙ e))
 
--- the state of the board that a start gives, where it gives one
-abbrev state_given : BoardState → calls.Started BoardState → BoardState
-state_given d (calls.board s es) = s
-state_given d (calls.start_refused n) = d
-
-given : (w : StartAnswer) (b : Board) → state_given (state_of b) (started_with w b) ≡ state_of b
-given StartAnswer.Ready b = refl
-given (StartAnswer.Refused r) b = refl
-
-put-starts : (x : calls.Started BoardState) (w : StartAnswer) (v : Started) (s after m m' : List ℕ) → w ≡ StartAnswer.Ready
-    → start_refusal_of w ≡ start_refusal_in x → StartsBoard v m m' x → length s ≡ 111 → after ≡ state_bytes v.board → state_in after ≡ state_of v.board
-    → Starts (start_in (length s) x) 0 s after m m'
+-- a state of 111 bytes: the board is written, or the start is refused
+put-starts : (x : calls.Started BoardState) (v : Result Board Refusal) (b : Board) (s after m m' : List ℕ) → v ≡ Ok b → StartsBoard v m m' x
+    → length s ≡ 111 → after ≡ state_bytes b → state_in after ≡ state_of b → Starts (start_in (length s) x) 0 s after m m'
 unfolding start_in
-put-starts (calls.board y es) w v s after m m' q e told size put shown =
-    let is : state_of v.board ≡ y = sym (given v.answer v.board) ∙ ap (state_given (state_of v.board)) told.started in
-    rw (eq-eqb (length s) 111 size)
-    (record { result = refl; state = shown ∙ is; bytes = put ∙ ap state_bytes told.value; stored = told.store })
-put-starts (calls.start_refused j) w v s after m m' q e told size put shown = absurd (none-ne-some _ (sym (ap start_refusal_of q) ∙ e))
+put-starts (calls.board y es) v b s after m m' q told size put shown =
+    let t = subst (λ (v : Result Board Refusal). StartsBoard v m m' (calls.board y es)) q told in
+    let is : state_of b ≡ y = let e = t.started in cc in
+    rw (eq-eqb (length s) 111 size) (record { result = refl; state = shown ∙ is; bytes = put ∙ ap state_bytes t.value; stored = t.store })
+put-starts (calls.start_refused j) v b s after m m' q told size put shown =
+    let t = subst (λ (v : Result Board Refusal). StartsBoard v m m' (calls.start_refused j)) q told in
+    absurd (let e = t.started in cc)
 
-pub returns-in-Refused : goal.returns-in-Refused
-returns-in-Refused c = search refused-starts
+start-refused : (x : calls.Started BoardState) (v : Result Board Refusal) (r : Refusal) (n : ℕ) (s m m' : List ℕ) → v ≡ Err r → StartsBoard v m m' x
+    → n ≡ number_of r → Starts (start_in (length s) x) n s s m m'
+unfolding start_in
+start-refused (calls.board y es) v r n s m m' q told k =
+    let t = subst (λ (v : Result Board Refusal). StartsBoard v m m' (calls.board y es)) q told in
+    absurd (let e = t.started in cc)
+start-refused (calls.start_refused j) v r n s m m' q told k =
+    let t = subst (λ (v : Result Board Refusal). StartsBoard v m m' (calls.start_refused j)) q told in
+    let is : number_of r ≡ j = let e = t.started in cc in
+    record { result = k ∙ is; state = tt; bytes = refl; stored = t.store }
 
-pub returns-then-state-ne-SIZE : goal.returns-then-state-ne-SIZE
-returns-then-state-ne-SIZE c = search another_size
+pub returns-in-Ok : goal.returns-in-Ok
+returns-in-Ok c = search another_size
 
-pub returns : goal.returns
-returns c = search put-starts
+pub returns-in-Err : goal.returns-in-Err
+returns-in-Err c = search refused_first
+
+pub returns-in-Ok-start : goal.returns-in-Ok-start
+returns-in-Ok-start c = search put-starts
+
+pub returns-in-Err-start : goal.returns-in-Err-start
+returns-in-Err-start c = search start-refused

@@ -1,9 +1,6 @@
--- An answer that is no refusal keeps nothing; a refusal is asked for its number.
-use Rattle.board_c.proofs.AnswerLaws.{not_refused, refusal-kept}
+-- A refusal is asked for its number.
+use Rattle.board_c.proofs.AnswerLaws.{refusal-kept}
 use Rattle.board_c.proofs.exports.keeps_all.Goals as goal
-
-pub returns-in_default : goal.returns-in_default
-returns-in_default c = search not_refused
 
 pub returns : goal.returns
 returns c = search refusal-kept

@@ -1,105 +1,99 @@
 -- The callee of each case writes the text of that case.
-use mathlib.Core.List.{List, ◌++◌}
-use mathlib.Core.Path.{◌≡◌, refl}
-use Prim.Native.Nat.{ℕ, ◌≤◌}
-use lib.ListN.{length, take}
-use Rattle.wire.specs.Digits.{hex_of}
-use Rattle.wire.specs.Packet.{type_b}
-use Rattle.messages.specs.Text.{reply_type, reply_text, item_reply_name}
-use Rattle.messages.specs.View.{reply_of, date_answer_of, reply_count, schedule_answer_count}
-use Rattle.messages.specs.Inner.{Beside, Writes}
-use Rattle.messages.specs.declared.message.DateAnswer.{DateAnswer}
+use Prim.Native.Nat.{◌≤◌}
+use native.Mathlib.Nat.{min-le_left}
+use native.Mathlib.Omega.{arith}
+use lib.ListN.{length, length-append, length-take}
+use Rattle.wire.specs.Digits.{hex_of, octets_of}
+use Rattle.wire.specs.declared.digits.Octets.{Octets}
+use Rattle.wire.proofs.DigitLaws.{hex_length}
 use Rattle.messages.specs.declared.message.Item.{Item}
-use Rattle.messages.specs.declared.message.ScheduleAnswer.{ScheduleAnswer}
-use Rattle.messages.specs.declared.message.Status.{Status}
-use Rattle.messages.specs.declared.message.Reply.{Reply}
-use Rattle.messages.specs.declared.write.Written.{Written}
-use Rattle.messages.proofs.WriteLaws.{part_length, part-few}
+use mathlib.Core.Path.{◌≡◌, refl}
+use Rattle.wire.specs.Packet.{type_b}
+use Rattle.messages.specs.View.{date_answer_of}
+use Rattle.messages.specs.declared.message.DateAnswer.{DateAnswer}
+use Rattle.messages.specs.Text.{date_text, item_reply_name, parameter_text, reply_type, reply_text}
 use Rattle.messages.proofs.write.reply_text.Goals as goal
 
-module _ (r : Reply) (bytes : List ℕ) where
-  of_case : (s : Reply) → r ≡ s → (w : Written) (o b : List ℕ)
-      → Writes (reply_type (reply_of s bytes)) (reply_text (reply_of s bytes)) w o b
-      → Writes (reply_type (reply_of r bytes)) (reply_text (reply_of r bytes)) w o b
-  of_case s e w o b p = rw e p
+date-type : (a : DateAnswer) → reply_type (date_answer_of a) ≡ type_b
+unfolding reply_type
+date-type (DateAnswer.Read d) = refl
+date-type (DateAnswer.Written o d) = refl
 
-  date_type : (a : DateAnswer) → reply_type (date_answer_of a) ≡ type_b
-  unfolding reply_type
-  date_type (DateAnswer.Read d) = refl
-  date_type (DateAnswer.Written o d) = refl
-
-  of_date : (a : DateAnswer) → r ≡ Reply.Date a → (w : Written) (o b : List ℕ) → Writes type_b (reply_text (date_answer_of a)) w o b
-      → Writes (reply_type (reply_of r bytes)) (reply_text (reply_of r bytes)) w o b
-  of_date a e w o b p = rw (e, date_type a) p
-
-  module _ (i : Item) (n : ℕ) (e : r ≡ Reply.Item i n) where
-    of_item : (name : List ℕ) → name ≡ item_reply_name i → (w : Written) (o b : List ℕ) → Writes type_b (name ++ hex_of (take n bytes)) w o b
-        → Writes (reply_type (reply_of r bytes)) (reply_text (reply_of r bytes)) w o b
-    unfolding reply_type reply_text
-    of_item name is w o b p = rw (e, ← is) p
-
-    module _ (beside : Beside (reply_count r) bytes) where
-      item_length : n ≡ length (take n bytes)
-      item_length = part_length beside (rw e)
-
-      item_few : length (take n bytes) ≤ 16
-      item_few = part-few {n = n} beside (rw e)
-
-  module _ (s : Status) (n : ℕ) (e : r ≡ Reply.TagWritten s n) (beside : Beside (reply_count r) bytes) where
-    tag_length_lem : n ≡ length (take n bytes)
-    tag_length_lem = part_length beside (rw e)
-
-    tag_few : length (take n bytes) ≤ 16
-    tag_few = part-few {n = n} beside (rw e)
-
-  schedule-beside : (a : ScheduleAnswer) → r ≡ Reply.Schedule a → Beside (reply_count r) bytes → Beside (schedule_answer_count a) bytes
-  schedule-beside a e beside = rw e at beside
-
-pub returns-in-Null : goal.returns-in-Null
+pub returns-in-Null-clause-text : goal.returns-in-Null-clause-text
 unfolding reply_type reply_text
-returns-in-Null c = search of_case
+returns-in-Null-clause-text c = rw c.in-Null.is c.put_name.ensures
 
-pub returns-in-Got : goal.returns-in-Got
+pub returns-in-Got-clause-text : goal.returns-in-Got-clause-text
 unfolding reply_type reply_text
-returns-in-Got c = search of_case
+returns-in-Got-clause-text c = rw c.in-Got.is c.put_parameter.ensures
 
-pub returns-in-Set : goal.returns-in-Set
+pub returns-in-Set-clause-text : goal.returns-in-Set-clause-text
 unfolding reply_type reply_text
-returns-in-Set c = search of_case
+returns-in-Set-clause-text c = rw c.in-Set.is c.put_parameter-in-Set.ensures
 
-pub returns-in-PowerStatus : goal.returns-in-PowerStatus
+pub returns-in-PowerStatus-clause-text : goal.returns-in-PowerStatus-clause-text
 unfolding reply_type reply_text
-returns-in-PowerStatus c = search of_case
+returns-in-PowerStatus-clause-text c = rw c.in-PowerStatus.is c.put_power_read_reply.ensures
 
-pub returns-in-PowerControl : goal.returns-in-PowerControl
+pub returns-in-PowerControl-clause-text : goal.returns-in-PowerControl-clause-text
 unfolding reply_type reply_text
-returns-in-PowerControl c = search of_case
+returns-in-PowerControl-clause-text c = rw c.in-PowerControl.is c.put_power_control_reply.ensures
 
-pub returns-in-Date : goal.returns-in-Date
-returns-in-Date c = search of_date
-
-pub slice_bounds-put_named_bytes-end : goal.slice_bounds-put_named_bytes-end
-slice_bounds-put_named_bytes-end c = search item_length
-
-pub put_named_bytes-requires : goal.put_named_bytes-requires
-put_named_bytes-requires c = search item_few
-
-pub returns-in-Item : goal.returns-in-Item
-returns-in-Item c = search of_item
-
-pub slice_bounds-put_status_and_bytes-end : goal.slice_bounds-put_status_and_bytes-end
-slice_bounds-put_status_and_bytes-end c = search tag_length_lem
-
-pub put_status_and_bytes-requires : goal.put_status_and_bytes-requires
-put_status_and_bytes-requires c = search tag_few
-
-pub returns-in-TagWritten : goal.returns-in-TagWritten
+pub returns-in-Date-clause-text : goal.returns-in-Date-clause-text
 unfolding reply_type reply_text
-returns-in-TagWritten c = search of_case
+returns-in-Date-clause-text c = rw (c.in-Date.is, date-type c.in-Date.answer) c.put_date_reply.ensures
 
-pub put_schedule_reply-requires : goal.put_schedule_reply-requires
-put_schedule_reply-requires c = search schedule-beside
-
-pub returns-in-Schedule : goal.returns-in-Schedule
+pub returns-in-Item-clause-text : goal.returns-in-Item-clause-text
 unfolding reply_type reply_text
-returns-in-Schedule c = search of_case
+returns-in-Item-clause-text c = rw (c.in-Item.is, ← c.item_reply_name.ensures) c.put_named_octets.ensures
+
+pub returns-in-TagWritten-clause-text : goal.returns-in-TagWritten-clause-text
+unfolding reply_type reply_text
+returns-in-TagWritten-clause-text c = rw c.in-TagWritten.is c.put_status_and_bytes.ensures
+
+pub returns-in-Schedule-clause-text : goal.returns-in-Schedule-clause-text
+unfolding reply_type reply_text
+returns-in-Schedule-clause-text c = rw c.in-Schedule.is c.put_schedule_reply.ensures.text
+
+pub returns-in-Got-clause-length : goal.returns-in-Got-clause-length
+unfolding parameter_text
+returns-in-Got-clause-length c = (omega arith, omega arith)
+
+pub returns-in-Set-clause-length : goal.returns-in-Set-clause-length
+unfolding parameter_text
+returns-in-Set-clause-length c = (omega arith, omega arith)
+
+date-length : (a : DateAnswer) → (2 ≤ length (reply_text (date_answer_of a))) × (length (reply_text (date_answer_of a)) ≤ 38)
+unfolding reply_text date_text
+date-length (DateAnswer.Read d) = (omega arith, omega arith)
+date-length (DateAnswer.Written o d) = (omega arith, omega arith)
+
+pub returns-in-Date-clause-length : goal.returns-in-Date-clause-length
+returns-in-Date-clause-length c = let counted = date-length c.in-Date.answer in (omega arith, omega arith)
+
+few_octets : (o : Octets) → o.count ≤ 16 → length (octets_of o) ≤ 16
+few_octets o h = rw length-take (omega (arith, min-le_left o.count (length o.bytes)))
+
+name-length : (i : Item) → length (item_reply_name i) ≡ 4
+name-length Item.Serial = refl
+name-length Item.Model = refl
+name-length Item.Tag = refl
+name-length Item.FormerTag = refl
+
+pub returns-in-Item-clause-length : goal.returns-in-Item-clause-length
+returns-in-Item-clause-length c =
+    let held = c.in-Item.octets in
+    let few : held.count ≤ 16 = rw c.in-Item.is at c.requires in
+    let counted = few_octets held few in
+    let digits = hex_length (octets_of held) in
+    let name : length c.item_reply_name.result ≡ 4 = rw c.item_reply_name.ensures (name-length c.in-Item.item) in
+    let all = length-append c.item_reply_name.result (hex_of (octets_of held)) in
+    (omega arith, omega arith)
+
+pub returns-in-TagWritten-clause-length : goal.returns-in-TagWritten-clause-length
+returns-in-TagWritten-clause-length c =
+    let tag = c.in-TagWritten.tag in
+    let few : tag.count ≤ 16 = rw c.in-TagWritten.is at c.requires in
+    let counted = few_octets tag few in
+    let digits = hex_length (octets_of tag) in
+    (omega arith, omega arith)

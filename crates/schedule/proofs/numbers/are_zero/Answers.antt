@@ -1,37 +1,23 @@
--- After i turns the first i bytes are zero, and the others decide.
-use mathlib.Core.Bool.{true, false}
-use mathlib.Core.List.{List}
-use mathlib.Core.Path.{◌≡◌, refl, sym, ◌∙◌}
-use mathlib.Core.Logic.{◌≢◌}
-use Prim.Native.Nat.{ℕ, ◌+◌, ◌≤◌, ◌<◌}
-use native.Mathlib.Numerals.{add-one}
-use lib.ListN.{length, get_or, drop, drop_of_length-le}
-use lib.Seq.{drop-cons}
-use borrow.Author.Tests.{eq-eqb, ne_eqb}
+-- Each byte is tested, as the definition does.
+use mathlib.Core.Bool.{◌&&◌}
+use mathlib.Core.List.{List, [], ◌∷◌}
+use mathlib.Core.Path.{◌≡◌, refl, ap, ◌∙◌}
+use Prim.Native.Nat.{ℕ}
+use lib.Dec.{eqb}
+use Rattle.std.proofs.Common.{rules, tests}
+use Rattle.std.proofs.lemmas.Iterator.{YieldsList-from_slice}
+use Rattle.std.proofs.lemmas.Iterator.Search.{all_from_yields_List}
+use Rattle.std.specs.List.{list_all}
 use Rattle.schedule.specs.Numbers.{are_zero}
 use Rattle.schedule.proofs.numbers.are_zero.Goals as goal
 
-module _ (s : List ℕ) (i : ℕ) (inv : are_zero s ≡ are_zero (drop i s)) where
-  one-not : i < length s → get_or s i 0 ≢ 0 → false ≡ are_zero s
-  unfolding are_zero
-  one-not h n = sym (inv ∙ rw (drop-cons s i 0 h, ne_eqb (get_or s i 0) 0 n))
-
-  one_more : i < length s → get_or s i 0 ≡ 0 → are_zero s ≡ are_zero (drop (i + 1) s)
-  unfolding are_zero
-  one_more h e = inv ∙ rw (add-one, drop-cons s i 0 h, eq-eqb (get_or s i 0) 0 e)
-
-  none_left : length s ≤ i → true ≡ are_zero s
-  unfolding are_zero
-  none_left h = sym (inv ∙ rw (drop_of_length-le s h))
-
-pub loop-i-init : goal.loop-i-init
-loop-i-init c = refl
-
-pub returns-then-bytes-i-ne0 : goal.returns-then-bytes-i-ne0
-returns-then-bytes-i-ne0 c = search one-not
-
-pub loop-i-preserved : goal.loop-i-preserved
-loop-i-preserved c = search one_more
+each_zero : (s : List ℕ) → list_all (λ x. eqb x 0) s ≡ are_zero s
+unfolding are_zero
+each_zero [] = refl
+each_zero (x ∷ xs) = ap (λ b. eqb x 0 && b) (each_zero xs)
 
 pub returns : goal.returns
-returns c = search none_left
+returns c =
+    all_from_yields_List (λ x. eqb x 0) _ _ c.all.result c.all.ensures.ran (YieldsList-from_slice c.args.bytes.now cc)
+    (λ x b q k. search (rules, tests))
+    ∙ each_zero c.args.bytes.now

@@ -8,6 +8,6 @@ use Rattle.schedule.proofs.numbers.shown_program.Goals as goal
 
 pub returns : goal.returns
 returns c =
-    let e : get_or c.programs_of-programs.result c.args.k [] ≡ program_of c.args.store.now c.args.k =
-    rw c.programs_of-programs.ensures (programs-at _ c.args.k c.requires.1) in
+    let e : get_or c.programs_of.result c.args.k [] ≡ program_of c.args.store.now c.args.k =
+    rw c.programs_of.ensures (programs-at _ c.args.k c.requires.1) in
     rw (c.input_shown.ensures, e)

@@ -1,36 +1,21 @@
--- After k turns the first k programs are found in range.
-use borrow.Author.Rules.{rules}
-use mathlib.Core.Bool.{Bool, true, false, not, ◌&&◌}
+-- The seven programs are tested in turn, as the definition does.
+use mathlib.Core.Bool.{and-true, and_assoc}
 use mathlib.Core.List.{List}
-use mathlib.Core.Path.{◌≡◌, refl, sym, ap₂, ◌∙◌}
-use Prim.Native.Nat.{ℕ, ◌+◌, ◌<◌}
-use native.Mathlib.Numerals.{add-one}
-use native.Mathlib.Omega.{arith}
-use borrow.Author.Tests.{not-true, not-false}
+use mathlib.Core.Path.{◌≡◌, refl, ◌∙◌}
+use Prim.Native.Nat.{ℕ}
+use Rattle.std.proofs.Common.{rules, tests}
+use Rattle.std.proofs.lemmas.Iterator.{YieldsList-from_range}
+use Rattle.std.proofs.lemmas.Iterator.Search.{all_from_yields_List}
+use Rattle.std.specs.List.{list_all, range_with_len}
 use Rattle.schedule.specs.Programs.{program_of, is_program, first_in_range, programs_in_range}
-use Rattle.schedule.proofs.Packing.{not_in_range}
 use Rattle.schedule.proofs.programs.in_range.Goals as goal
 
-module _ (m : List ℕ) (k : ℕ) (b : Bool) (test : b ≡ is_program (program_of m k)) where
-  one_out : k < 7 → not b ≡ true → false ≡ programs_in_range m
-  one_out h e = sym (not_in_range m k h (sym test ∙ not-true b e))
-
-  one_more : first_in_range m k ≡ true → not b ≡ false → first_in_range m (k + 1) ≡ true
-  unfolding first_in_range
-  one_more r e = rw add-one (ap₂ ◌&&◌ r (sym test ∙ not-false b e))
-
-pub loop-k-init : goal.loop-k-init
+each_in_range : (m : List ℕ) → list_all (λ k. is_program (program_of m k)) (range_with_len 0 7) ≡ programs_in_range m
 unfolding first_in_range
-loop-k-init c = (omega arith, refl)
-
-pub returns-then-not-is_program_at : goal.returns-then-not-is_program_at
-returns-then-not-is_program_at c = search (rules, one_out)
-
-pub loop-k-preserved : goal.loop-k-preserved
-loop-k-preserved c = (omega arith, search one_more)
+each_in_range m = simp (and_assoc, and-true)
 
 pub returns : goal.returns
 returns c =
-    let l = c.loop-k in
-    let e : l.k ≡ 7 = omega arith in
-    sym (rw e at l.invariant.1)
+    all_from_yields_List (λ k. is_program (program_of c.args.store.now k)) _ _ c.all.result c.all.ensures.ran
+    (YieldsList-from_range 0 7 7 refl refl) (λ x b q k. search (rules, tests))
+    ∙ each_in_range c.args.store.now

@@ -1,6 +1,5 @@
 -- After k turns the first k programs are put.
-use mathlib.Core.Path.{◌≡◌, refl, ◌∙◌}
-use Prim.Native.Nat.{◌<◌}
+use mathlib.Core.Path.{refl}
 use native.Mathlib.Numerals.{add-one}
 use native.Mathlib.Omega.{arith}
 use Rattle.schedule.specs.Inner.{with_first}
@@ -9,21 +8,7 @@ use Rattle.schedule.proofs.programs.packed.Goals as goal
 
 pub loop-k-init : goal.loop-k-init
 unfolding with_first
-loop-k-init c = (omega arith, c.area_of-area.ensures)
-
-pub put_program-requires : goal.put_program-requires
-put_program-requires c =
-    let l = c.loop-k in
-    let h : l.k < 7 = omega arith in
-    (h, c.requires.1 l.k h)
+loop-k-init c = c.area_of-area.ensures
 
 pub loop-k-preserved : goal.loop-k-preserved
-loop-k-preserved c =
-    let l = c.loop-k in
-    (omega arith, rw add-one (packed-turn _ _ l.k (omega arith) l.invariant.1 refl c.put_program.ensures))
-
-pub returns : goal.returns
-returns c =
-    let l = c.loop-k in
-    let e : l.k ≡ 7 = omega arith in
-    l.invariant.1 ∙ rw e
+loop-k-preserved c = let l = c.loop-k in rw add-one (packed-turn _ _ l.k (omega arith) l.invariant refl c.put_program.ensures)

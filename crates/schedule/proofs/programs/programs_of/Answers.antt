@@ -9,18 +9,17 @@ use Rattle.schedule.proofs.programs.programs_of.Goals as goal
 
 pub loop-k-init : goal.loop-k-init
 unfolding first_programs
-loop-k-init c = (omega arith, refl, refl)
+loop-k-init c = (refl, refl)
 
 pub loop-k-preserved : goal.loop-k-preserved
 loop-k-preserved c =
     let l = c.loop-k in (
-      omega arith,
-      simp length-set l.invariant.1,
-      rw (add-one, c.program_at.ensures) (programs-turn _ l.programs l.k (omega arith) l.invariant.2),
+      simp length-set l.invariant.0,
+      rw (add-one, c.program_at.ensures) (programs-turn _ l.programs l.k (omega arith) l.invariant.1),
     )
 
 pub returns : goal.returns
 returns c =
     let l = c.loop-k in
     let e : l.k ≡ 7 = omega arith in
-    programs-end _ l.programs l.invariant.1 (rw e at l.invariant.2)
+    programs-end _ l.programs l.invariant.0 (rw e at l.invariant.1)

@@ -1,12 +1,8 @@
 -- After k turns the first k rows are the first k programs.
 use mathlib.Core.Path.{◌≡◌}
-use Prim.Native.Nat.{◌-◌, ◌≤◌}
 use lib.ListN.{length, take}
 use Rattle.schedule.specs.Programs.{first_programs}
 use Rattle.schedule.proofs.programs.programs_of.Given as goal
 
 abbrev pub invariant-loop-k : goal.invariant-loop-k
-invariant-loop-k l = (l.k ≤ 7) × (length l.programs ≡ 7) × (take l.k l.programs ≡ first_programs l.store l.k)
-
-abbrev pub decreases-loop-k : goal.decreases-loop-k
-decreases-loop-k l = 7 - l.k
+invariant-loop-k l = (length l.programs ≡ 7) × (take l.k l.programs ≡ first_programs l.store l.k)

@@ -1,26 +1,24 @@
--- Each refusal stands where the definition has it, and a packet of 64 bytes can hold the text that is written.
-use borrow.Author.Rules.{rules}
-use Rattle.messages.proofs.SendLaws.{text-fits, text-there, text-counted}
-use Rattle.station.proofs.Laws.{request_text-fits, short_refused, unknown-refused, value-refused, sent}
+-- The tests and the address are those of the definition, and the packet holds the text that was written.
+use borrow.Author.Tests.{le-ltb}
+use mathlib.Core.Path.{◌≡◌}
+use native.Mathlib.Omega.{arith}
+use Rattle.std.specs.Prelude.{Some}
+use Rattle.wire.specs.Packet.{least_buffer}
+use Rattle.messages.proofs.SendLaws.{text-first}
+use Rattle.station.specs.Encode.{encoding_of}
 use Rattle.station.proofs.encode.encode.Goals as goal
 
-pub returns-then-out-lt-LEAST_BUFFER : goal.returns-then-out-lt-LEAST_BUFFER
-returns-then-out-lt-LEAST_BUFFER c = search short_refused
-
-pub returns-in_default : goal.returns-in_default
-returns-in_default c = search unknown-refused
-
-pub returns-then-not-in_range : goal.returns-then-not-in_range
-returns-then-not-in_range c = search value-refused
-
-pub slice_bounds-text-end : goal.slice_bounds-text-end
-slice_bounds-text-end c = search (rules, text-there, request_text-fits)
-
-pub slice_bounds-put_packet-end : goal.slice_bounds-put_packet-end
-slice_bounds-put_packet-end c = search (rules, text-counted, request_text-fits)
-
-pub put_packet-requires : goal.put_packet-requires
-put_packet-requires c = search (rules, text-fits, request_text-fits)
-
 pub returns : goal.returns
-returns c = search sent
+unfolding encoding_of
+returns c =
+    let known : c.address_of.result ≡ Some c.in_ok-address.address = grind arith in
+    let writes = c.request_text-written.ensures.text in
+    rw (
+      le-ltb _ least_buffer c.if-out-lt-LEAST_BUFFER.false,
+      ← c.address_of.ensures,
+      known,
+      c.if-not-in_range.false,
+      ← text-first _ _ _ _ _ writes,
+      ← writes.kind,
+    )
+    (record { answer = c.put_packet.ensures.0; buffer = c.put_packet.ensures.1 })

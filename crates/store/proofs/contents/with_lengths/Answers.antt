@@ -1,18 +1,13 @@
 -- Both lengths are stored in a copy of the first 12 bytes.
-use borrow.Author.Rules.{rules}
 use mathlib.Core.List.{List}
 use mathlib.Core.Path.{◌≡◌, ◌∙◌}
-use Prim.Native.Nat.{ℕ, ◌<◌}
+use Prim.Native.Nat.{ℕ}
 use native.Mathlib.Omega.{arith}
 use lib.ListN.{take}
 use Rattle.bitfield.specs.Field.{get_field, put_field}
-use Rattle.bitfield.proofs.Laws.{get-lt}
 use Rattle.store.specs.Contents.{with_lengths}
 use Rattle.store.proofs.FieldLaws.{put-in_first}
 use Rattle.store.proofs.contents.with_lengths.Goals as goal
-
-get-five : (s : List ℕ) (at : ℕ) {r : ℕ} → r ≡ get_field s at 5 → r < 32
-get-five s at e = rw e (get-lt s at 5)
 
 lengths-put : (m : List ℕ) (count : ℕ) {old : ℕ} {h h₁ h₂ : List ℕ} → old ≡ get_field m 84 5 → h ≡ take 12 m
     → h₁ ≡ put_field h 89 5 old → h₂ ≡ put_field h₁ 84 5 count → h₂ ≡ take 12 (with_lengths m count)
@@ -20,9 +15,6 @@ unfolding with_lengths
 lengths-put m count a b c d =
     put-in_first 12 (put_field m 89 5 (get_field m 84 5)) 84 5 count (omega arith)
     (put-in_first 12 m 89 5 (get_field m 84 5) (omega arith) b (c ∙ rw a)) d
-
-pub put-requires : goal.put-requires
-put-requires c = search (rules, get-five)
 
 pub returns : goal.returns
 returns c = search lengths-put

@@ -32,18 +32,15 @@ module _ (m : List ℕ) (all : Bool) (i : ℕ) (inv : Tested m all i) where
   unfolding Tested
   all_tested h = sym (inv ∙ rw (drop_of_length-le settings h) (and-true all))
 
-pub loop-i-init : goal.loop-i-init
+pub loop-row-init : goal.loop-row-init
 unfolding Tested
-loop-i-init c = refl
+loop-row-init c = refl
 
-pub bounds-rows-i : goal.bounds-rows-i
-bounds-rows-i c = c.loop-i-test.true
+pub is_in_range-all-requires-clause-listed : goal.is_in_range-all-requires-clause-listed
+is_in_range-all-requires-clause-listed c = search (rules, listed)
 
-pub is_in_range-all-requires : goal.is_in_range-all-requires
-is_in_range-all-requires c = search (rules, listed)
-
-pub loop-i-preserved : goal.loop-i-preserved
-loop-i-preserved c = one_more _ _ _ c.loop-i.invariant _ _ c.rows-rows.ensures c.loop-i-test.true _ c.is_in_range-all.ensures
+pub loop-row-preserved : goal.loop-row-preserved
+loop-row-preserved c = one_more _ _ _ c.loop-row.invariant _ _ c.rows-rows.ensures c.loop-row-test.true _ c.is_in_range-all.ensures
 
 pub returns : goal.returns
 returns c = search all_tested

@@ -2,8 +2,8 @@
 use mathlib.Core.Bool.{Bool, ◌&&◌}
 use mathlib.Core.List.{List, map}
 use mathlib.Core.Path.{◌≡◌}
-use Prim.Native.Nat.{ℕ, ◌-◌}
-use lib.ListN.{length, drop}
+use Prim.Native.Nat.{ℕ}
+use lib.ListN.{drop}
 use Rattle.store.specs.Fields.{all_fit}
 use Rattle.store.specs.Settings.{settings, field_of}
 use Rattle.store.specs.Layout.{setting_fields}
@@ -13,8 +13,5 @@ use Rattle.store.proofs.settings.in_range.Given as goal
 unfoldable pub Tested : List ℕ → Bool → ℕ → Type 0
 Tested m all i = all_fit m setting_fields ≡ (all && all_fit m (map field_of (drop i settings)))
 
-abbrev pub invariant-loop-i : goal.invariant-loop-i
-invariant-loop-i l = Tested l.store l.all l.i
-
-abbrev pub decreases-loop-i : goal.decreases-loop-i
-decreases-loop-i l = length settings - l.i
+abbrev pub invariant-loop-row : goal.invariant-loop-row
+invariant-loop-row l = Tested l.store l.all l.row-index

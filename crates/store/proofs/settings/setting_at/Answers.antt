@@ -26,18 +26,15 @@ module _ (page code : ℕ) where
   found_nowhere : (i : ℕ) → setting_at page code ≡ row_in page code (drop i settings) → length settings ≤ i → none ≡ setting_at page code
   found_nowhere i inv h = sym (inv ∙ ap (row_in page code) (drop_of_length-le settings h))
 
-pub loop-i-init : goal.loop-i-init
+pub loop-row-init : goal.loop-row-init
 unfolding setting_at
-loop-i-init c = refl
-
-pub bounds-rows-i : goal.bounds-rows-i
-bounds-rows-i c = c.loop-i-test.true
+loop-row-init c = refl
 
 pub returns-then-is_at : goal.returns-then-is_at
 returns-then-is_at c = search found_here
 
-pub loop-i-preserved : goal.loop-i-preserved
-loop-i-preserved c = search found-later
+pub loop-row-preserved : goal.loop-row-preserved
+loop-row-preserved c = search found-later
 
 pub returns : goal.returns
 returns c = search found_nowhere

@@ -30,11 +30,11 @@ module _ (start q : Result) (i : ℕ) (made : Stepped start q i) where
   all_steps : 128 ≤ i → q ≡ after_steps 128 start
   all_steps h = let e : i ≡ 128 = omega (arith, made.within) in rw e at made.stepped
 
-pub loop-i-init : goal.loop-i-init
-loop-i-init c = no_step _
+pub loop-init : goal.loop-init
+loop-init c = no_step _
 
-pub loop-i-preserved : goal.loop-i-preserved
-loop-i-preserved c = search one_more
+pub loop-preserved : goal.loop-preserved
+loop-preserved c = search one_more
 
 pub returns : goal.returns
 returns c = search all_steps

@@ -1,5 +1,5 @@
 -- After i turns the board has made i steps.
-use Prim.Native.Nat.{ℕ, ◌-◌, ◌≤◌}
+use Prim.Native.Nat.{ℕ, ◌≤◌}
 use mathlib.Core.Path.{◌≡◌}
 use lib.ListN.{length}
 use Rattle.board.specs.View.{gave, Result}
@@ -13,8 +13,5 @@ pub record Stepped (start now : Result) (i : ℕ) : Type 0 where
   pub buffer_kept : length now.buffer ≡ length start.buffer
   pub stepped : now ≡ after_steps i start
 
-abbrev pub invariant-loop-i : goal.invariant-loop-i
-invariant-loop-i l = Stepped (gave l.initial.done l.initial.store l.initial.reply) (gave l.done l.store l.reply) l.i
-
-abbrev pub decreases-loop-i : goal.decreases-loop-i
-decreases-loop-i l = 128 - l.i
+abbrev pub invariant-loop : goal.invariant-loop
+invariant-loop l = Stepped (gave l.initial.done l.initial.store l.initial.reply) (gave l.done l.store l.reply) l.counter

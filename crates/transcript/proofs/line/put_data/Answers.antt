@@ -9,5 +9,5 @@ returns-in-Refused c = (search refusal-put, omega arith)
 pub returns-in-Reply : goal.returns-in-Reply
 returns-in-Reply c = (search reply-put, omega arith)
 
-pub returns : goal.returns
-returns c = (search no_data_put, omega arith)
+pub returns-in_default : goal.returns-in_default
+returns-in_default c = (search no_data_put, omega arith)

@@ -4,11 +4,8 @@ use lib.ListN.{length-set}
 use Rattle.transcript.proofs.LineLaws.{untold-count, untold-over, line_count, line_over}
 use Rattle.transcript.proofs.line.put_line.Goals as goal
 
-pub returns-in-Waiting : goal.returns-in-Waiting
-returns-in-Waiting c = (search untold-count, search untold-over)
-
-pub returns-in-More : goal.returns-in-More
-returns-in-More c = (search untold-count, search untold-over)
+pub returns-then-not-is_told : goal.returns-then-not-is_told
+returns-then-not-is_told c = (search untold-count, search untold-over)
 
 pub shape_of-out : goal.shape_of-out
 shape_of-out c = simp length-set (omega arith)

@@ -1,7 +1,7 @@
 -- After i turns the digits of the first i bytes are pasted, and each turn pastes two more.
 use mathlib.Core.List.{List}
 use mathlib.Core.Path.{◌≡◌, refl, ◌∙◌}
-use Prim.Native.Nat.{ℕ, ◌+◌, ◌≤◌, ◌<◌}
+use Prim.Native.Nat.{ℕ, ◌+◌, ◌*◌, ◌≤◌, ◌<◌}
 use native.Mathlib.Omega.{arith}
 use lib.ListN.{length, get_or}
 use lib.Seq.{paste, paste-zero}
@@ -15,15 +15,15 @@ module _ (o : List ℕ) (at : ℕ) (s : List ℕ) where
   none-pasted room = record { within = omega arith; room = room; kept = refl; is = paste-zero o at (hex_of s) }
 
   byte-pasted : (i : ℕ) → i < length s → at + (length s + length s) ≤ length o
-      → paste (paste o at (hex_of s) (i + i)) (at + i + i) (two (get_or s i 0)) 2 ≡ paste o at (hex_of s) (i + 1 + (i + 1))
+      → paste (paste o at (hex_of s) (i + i)) (at + 2 * i) (two (get_or s i 0)) 2 ≡ paste o at (hex_of s) (i + 1 + (i + 1))
   byte-pasted i h room =
-      let place : at + i + i ≡ at + (i + i) = omega arith in
+      let place : at + 2 * i ≡ at + (i + i) = omega arith in
       let count : i + 1 + (i + 1) ≡ i + i + 2 = omega arith in
       let n = hex_length s in
       rw (place, count) (paste_more o at (hex_of s) (i + i) (two (get_or s i 0)) (omega arith) (omega arith) (hex_at s i h))
 
   module _ (out : List ℕ) (i : ℕ) (p : Pasted o at s out i) where
-    one_more : i < length s → (out' : List ℕ) → out' ≡ paste out (at + i + i) (two (get_or s i 0)) 2 → length out' ≡ length out
+    one_more : i < length s → (out' : List ℕ) → out' ≡ paste out (at + 2 * i) (two (get_or s i 0)) 2 → length out' ≡ length out
         → Pasted o at s out' (i + 1)
     one_more h out' e n =
         let kept = p.kept in

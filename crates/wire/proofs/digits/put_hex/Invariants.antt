@@ -1,7 +1,7 @@
 -- After i turns the digits of the first i bytes are pasted, and each turn pastes two more.
 use mathlib.Core.List.{List}
 use mathlib.Core.Path.{◌≡◌}
-use Prim.Native.Nat.{ℕ, ◌+◌, ◌-◌, ◌≤◌}
+use Prim.Native.Nat.{ℕ, ◌+◌, ◌≤◌}
 use lib.ListN.{length}
 use lib.Seq.{paste}
 use Rattle.wire.specs.Digits.{hex_of}
@@ -16,6 +16,3 @@ pub record Pasted (out₀ : List ℕ) (at : ℕ) (s out : List ℕ) (i : ℕ) : 
 
 abbrev pub invariant-loop-i : goal.invariant-loop-i
 invariant-loop-i l = Pasted l.initial.out l.at l.s l.out l.i
-
-abbrev pub decreases-loop-i : goal.decreases-loop-i
-decreases-loop-i l = length l.s - l.i

@@ -24,11 +24,11 @@ module _ (s : List ℕ) where
     unfolding xor_from
     all-joined h = sym (j.rest ∙ rw (drop_of_length-le s h))
 
-pub loop-i-init : goal.loop-i-init
-loop-i-init c = search none-joined
+pub loop-b-init : goal.loop-b-init
+loop-b-init c = search none-joined
 
-pub loop-i-preserved : goal.loop-i-preserved
-loop-i-preserved c = search one_more
+pub loop-b-preserved : goal.loop-b-preserved
+loop-b-preserved c = search one_more
 
 pub returns : goal.returns
 returns c = search all-joined

@@ -1,11 +1,10 @@
--- A listed row's field lies in the store, and what is kept of an accepted value fits it.
-use borrow.Author.Rules.{rules}
+-- What is kept of an accepted value fits the row's field.
 use Rattle.store.specs.Fields.{field_stores}
-use Rattle.store.proofs.SettingLaws.{row_in-store, kept-below}
+use Rattle.store.proofs.SettingLaws.{kept-below}
 use Rattle.store.proofs.settings.Row.stores.Goals as goal
 
-pub field_stores-requires : goal.field_stores-requires
-field_stores-requires c = search (rules, row_in-store, kept-below)
+pub stores-requires-clause-value_bound : goal.stores-requires-clause-value_bound
+stores-requires-clause-value_bound c = rw c.field.ensures.1 (kept-below _ _ c.kept.ensures c.requires.listed c.requires.v_value)
 
 pub returns : goal.returns
 unfolding field_stores

@@ -1,5 +1,0 @@
--- The numbers are filled up with zeros.
-use Rattle.station_c.proofs.read.list_written.Goals as goal
-
-pub returns : goal.returns
-returns c = rw c.number-number.ensures

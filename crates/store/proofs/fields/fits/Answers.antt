@@ -1,5 +1,0 @@
--- Both tests are the definition's, of the field that was read.
-use Rattle.store.proofs.fields.fits.Goals as goal
-
-pub returns : goal.returns
-returns c = cc

@@ -1,5 +1,0 @@
--- Each row is the one of its setting.
-use Rattle.store.proofs.settings.rows.Goals as goal
-
-pub returns : goal.returns
-returns c = cc
