@@ -4,7 +4,7 @@ ghost use Rattle.std.proofs.Math.Seq.{paste};
 ghost use Rattle.wire.specs.Digits.{two, four, hex_of, octets_of};
 ghost use Rattle.messages.specs.Text.{power_control_name, power_read_reply_name, power_read_reply_fixed, date_write_reply_name, schedule_read_name, schedule_enable_name, schedule_enable_reply_name, item_read_name, item_reply_name, date_text, parameter_text, schedule_text, schedule_reply_text, request_type, request_text, reply_type, reply_text};
 ghost use Rattle.wire.specs.Packet.{type_a, type_b, type_c, type_e};
-ghost use Rattle.messages.specs.View.{request_of, reply_of, status_number, mode_number, date_answer_of, schedule_request_of, schedule_answer_of, request_count, reply_count};
+ghost use Rattle.messages.specs.View.{request_of, reply_of, status_number, mode_number, date_answer_of, schedule_request_of, schedule_answer_of, reply_count};
 ghost use Rattle.messages.specs.Inner.{Writes};
 
 use crate::message::{
@@ -23,7 +23,6 @@ pub struct Written {
 
 // Writes the text of a request.
 pub fn request_text(request: Request, text: &mut [u8; 62]) -> Written
-    requires { request_count request ≤ 16 }
     ensures text { Writes (request_type (request_of request)) (request_text (request_of request)) result text.old text.new }
     ensures length { (2 ≤ result.length) × (result.length ≤ 36) }
 {
@@ -88,12 +87,12 @@ fn put_named_bytes(kind: u8, name: &[u8; 4], bytes: &[u8], text: &mut [u8; 62]) 
     }
 }
 
-// A name and the bytes that are counted behind it.
+// A name, and behind it the bytes that are counted; where more are counted than there are, those that there are.
 fn put_named_octets(kind: u8, name: &[u8; 4], octets: Octets, text: &mut [u8; 62]) -> Written
-    requires { octets.count ≤ 16 }
     ensures { Writes kind (name.now ++ hex_of (octets_of octets)) result text.old text.new }
 {
-    put_named_bytes(kind, name, &octets.bytes[..octets.count as usize], text)
+    let count = usize::from(octets.count).min(octets.bytes.len());
+    put_named_bytes(kind, name, &octets.bytes[..count], text)
 }
 
 // A name and a date behind it.

@@ -1,9 +1,9 @@
 // Requests written as packets into a lent buffer.
-ghost use Rattle.std.specs.Prelude.{◌∷◌, ◌++◌, ◌≡◌, ◌≤◌, length, replicate};
+ghost use Rattle.std.specs.Prelude.{◌∷◌, ◌++◌, ◌≡◌, length, replicate};
 ghost use Rattle.wire.specs.Digits.{found};
 ghost use Rattle.messages.specs.Message as message;
 ghost use Rattle.messages.specs.Text.{request_type, request_text};
-ghost use Rattle.messages.specs.View.{request_of, request_count, schedule_request_of};
+ghost use Rattle.messages.specs.View.{request_of, schedule_request_of};
 ghost use Rattle.station.specs.Encode.{address_in, is_schedule_in_range, is_in_range, encoding_of, encoding, Encodes};
 
 use messages::message::{Request, ScheduleRequest};
@@ -29,7 +29,6 @@ const ADDRESS_BASE: u16 = packet::ADDRESS_BASE as u16;
 
 // Any request: the length of its packet, or why there is none.
 pub fn encode_request(dest: Destination, request: Request, out: &mut [u8]) -> Result<usize, Refusal>
-    requires { request_count request ≤ 16 }
     ensures { Encodes (encoding (length out.old) dest (request_of request)) result out.old out.new }
 {
     encode(dest, request, is_in_range(request), out)
@@ -64,7 +63,6 @@ pub fn encode_schedule_write(
 
 // Whether the values of a request are in their ranges.
 fn is_in_range(request: Request) -> bool
-    requires { request_count request ≤ 16 }
     ensures { result ≡ is_in_range (request_of request) }
 {
     match request {
@@ -104,7 +102,6 @@ fn encode(
     in_range: bool,
     out: &mut [u8],
 ) -> Result<usize, Refusal>
-    requires { request_count request ≤ 16 }
     ensures { Encodes (encoding_of (length out.old) dest in_range (request_type (request_of request)) (request_text (request_of request))) result out.old out.new }
 {
     if out.len() < packet::LEAST_BUFFER {

@@ -1,6 +1,6 @@
 // The encoder for C: the result is 0 or the refusal, and the packet's length goes to a lent place. Refused, nothing is written.
-ghost use Rattle.std.specs.Prelude.{◌≡◌, ◌≤◌, length};
-ghost use Rattle.messages.specs.View.{request_of, request_count};
+ghost use Rattle.std.specs.Prelude.{◌≡◌, length};
+ghost use Rattle.messages.specs.View.{request_of};
 ghost use Rattle.station.specs.Encode.{encoding};
 ghost use Rattle.station_c.specs.Encode.{destination_of, encode_get, encode_set, encode_power_read, encode_power_control, encode_date_read, encode_date_write, encode_serial_read, encode_model_read, encode_tag_read, encode_former_tag_read, encode_tag_write, encode_schedule_read, encode_schedule_write, encode_schedule_enable, encoding_for, EncodesForC, weekday_for};
 ghost use Rattle.station_c.specs.Inner.{TellsOf};
@@ -202,7 +202,6 @@ pub extern "C" fn station_encode_schedule_enable(
 
 // Any request.
 fn export(dest: u16, request: Request, out: &mut [u8], size: &mut usize) -> u8
-    requires { request_count request ≤ 16 }
     ensures { EncodesForC (encoding (length out.old) (destination_of dest) (request_of request)) result out.old out.new size.old size.new }
 {
     tell(

@@ -1,6 +1,6 @@
 -- The callee of each case writes the text of that case.
 use Prim.Native.Nat.{◌≤◌}
-use native.Mathlib.Nat.{min-le_left}
+use native.Mathlib.Nat.{min-le_right}
 use native.Mathlib.Omega.{arith}
 use lib.ListN.{length, length-take}
 use Rattle.wire.specs.Digits.{octets_of}
@@ -51,7 +51,6 @@ returns-in-DateWrite-clause-length c = (omega arith, omega arith)
 pub returns-in-TagWrite-clause-length : goal.returns-in-TagWrite-clause-length
 returns-in-TagWrite-clause-length c =
     let tag = c.in-TagWrite.tag in
-    let few : tag.count ≤ 16 = rw c.in-TagWrite.is at c.requires in
-    let counted : length (octets_of tag) ≤ 16 = rw length-take (omega (arith, min-le_left tag.count (length tag.bytes))) in
+    let counted : length (octets_of tag) ≤ 16 = rw length-take (omega (arith, min-le_right tag.count (length tag.bytes))) in
     let digits = hex_length (octets_of tag) in
     (omega arith, omega arith)
