@@ -39,6 +39,13 @@ pub trait Setting {
     ghost ROW: { Row };
 
     const ROW: Row;
+
+    // Its row, as the settings are listed.
+    fn listed() -> Row
+        ensures { result ≡ ROW }
+    {
+        Self::ROW
+    }
 }
 
 impl Values {
@@ -149,14 +156,14 @@ fn rows() -> [Row; SETTINGS]
     ensures { result ≡ settings }
 {
     [
-        Backlight::ROW,
-        Input::ROW,
-        Balance::ROW,
-        PipH::ROW,
-        PipV::ROW,
-        AmbientLow::ROW,
-        AmbientHigh::ROW,
-        Tile::ROW,
+        Backlight::listed(),
+        Input::listed(),
+        Balance::listed(),
+        PipH::listed(),
+        PipV::listed(),
+        AmbientLow::listed(),
+        AmbientHigh::listed(),
+        Tile::listed(),
     ]
 }
 
