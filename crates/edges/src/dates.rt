@@ -17,8 +17,8 @@ fn februaries() -> [Date; 6] {
     ]
 }
 
-// The 30th and the 31st of each month of 2001, with the weekdays that follow on that of the day before.
-fn months() -> [Date; 24] {
+// The 30th and the 31st of each month of 2001, with the weekdays that follow on that of the day before: January to March.
+fn first_quarter() -> [Date; 6] {
     [
         [1, 1, 30, 2],
         [1, 1, 31, 3],
@@ -26,18 +26,36 @@ fn months() -> [Date; 24] {
         [1, 2, 31, 6],
         [1, 3, 30, 5],
         [1, 3, 31, 6],
+    ]
+}
+
+// The same of April to June.
+fn second_quarter() -> [Date; 6] {
+    [
         [1, 4, 30, 1],
         [1, 4, 31, 2],
         [1, 5, 30, 3],
         [1, 5, 31, 4],
         [1, 6, 30, 6],
         [1, 6, 31, 0],
+    ]
+}
+
+// The same of July to September.
+fn third_quarter() -> [Date; 6] {
+    [
         [1, 7, 30, 1],
         [1, 7, 31, 2],
         [1, 8, 30, 4],
         [1, 8, 31, 5],
         [1, 9, 30, 0],
         [1, 9, 31, 1],
+    ]
+}
+
+// The same of October to December.
+fn fourth_quarter() -> [Date; 6] {
+    [
         [1, 10, 30, 2],
         [1, 10, 31, 3],
         [1, 11, 30, 5],
@@ -47,14 +65,20 @@ fn months() -> [Date; 24] {
     ]
 }
 
-// The first day and the last, with their weekdays and with others; the days before and after them.
-fn weekdays() -> [Date; 10] {
+// The first day with its weekday and with others, and the day before it.
+fn first_days() -> [Date; 5] {
     [
         [0, 1, 1, 6],
         [0, 1, 1, 5],
         [0, 1, 1, 0],
         [0, 1, 1, 7],
         [0, 1, 0, 5],
+    ]
+}
+
+// The last day with its weekday and with another, and days and a month after it.
+fn last_days() -> [Date; 5] {
+    [
         [99, 12, 31, 4],
         [99, 12, 31, 5],
         [99, 12, 32, 5],
@@ -66,8 +90,12 @@ fn weekdays() -> [Date; 10] {
 // All of them.
 pub fn all(rt: &impl Print) {
     write_all(rt, &februaries());
-    write_all(rt, &months());
-    write_all(rt, &weekdays());
+    write_all(rt, &first_quarter());
+    write_all(rt, &second_quarter());
+    write_all(rt, &third_quarter());
+    write_all(rt, &fourth_quarter());
+    write_all(rt, &first_days());
+    write_all(rt, &last_days());
     stored(rt);
 }
 
