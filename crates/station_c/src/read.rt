@@ -59,7 +59,10 @@ pub extern "C" fn station_read(
             numbers[..list.count].copy_from_slice(&list.numbers[..list.count]);
             let held = reply_bytes(reply);
             let n = held.count as usize;
-            bytes[..n].copy_from_slice(&held.bytes[..n]);
+            // Most replies have no bytes, and a copy of none would still be a call.
+            if n > 0 {
+                bytes[..n].copy_from_slice(&held.bytes[..n]);
+            }
             *count = n;
             list.kind
         }

@@ -15,7 +15,15 @@ pub fn begins_with(name: &[u8], text: &[u8]) -> bool
     ensures value { result ≡ begins_with name.now text.now }
     ensures room { result ≡ true → length name.now ≤ length text.now }
 {
-    text.starts_with(name)
+    if text.len() < name.len() {
+        return false;
+    }
+    for (i, b) in name.iter().enumerate() {
+        if text[i] != *b {
+            return false;
+        }
+    }
+    true
 }
 
 // Whether a text is a name.

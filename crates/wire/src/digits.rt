@@ -43,7 +43,8 @@ pub fn value_of(b: u8) -> Option<u8>
     None
 }
 
-// The number that the two digits at a place give.
+// The number that the two digits at a place give. A call would take as long as the two tests.
+#[inline(always)]
 pub fn two_at(s: &[u8], at: usize) -> Option<u8>
     requires { at + 1 < length s.now }
     ensures { found result ≡ two_at s.now at }
@@ -119,7 +120,8 @@ pub fn put_four(out: &mut [u8], at: usize, n: u16)
     put_two(out, at + 2, (n % 256) as u8);
 }
 
-// Writes bytes as two digits each from a place on.
+// Writes bytes as two digits each from a place on. It is kept out of line, so that an array which it reads stays in memory in one piece.
+#[inline(never)]
 pub fn put_hex(out: &mut [u8], at: usize, s: &[u8])
     requires { at + (length s.now + length s.now) ≤ length out.old }
     ensures { out.new ≡ paste out.old at (hex_of s.now) (length (hex_of s.now)) }
