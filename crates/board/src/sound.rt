@@ -37,6 +37,9 @@ fn is_sound_idle(wanted: u8, store: &[u8]) -> bool
     store[0] == layouts::LAYOUT_MARK && wanted != 0 && layouts::due(store) == Some(0)
 }
 
+// The test of an erase that is pending. It is kept out of line, so that the entry check is small enough to be copied into each call, where the parts of
+// a board that comes by value stay in registers.
+#[inline(never)]
 #[tactic(auto, unfolding(calls::specs::Calls::mark))]
 fn is_sound_pending(len: u8, place: u8, store: &[u8]) -> bool
     requires { length store.now ≡ 128 }
